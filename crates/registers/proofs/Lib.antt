@@ -1,0 +1,3 @@
+pub mod BoolLaws
+pub mod BufferLaws
+pub mod SizeLaws

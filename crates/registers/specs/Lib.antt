@@ -1,0 +1,4 @@
+pub mod Put
+pub mod Fresh
+pub mod Size
+pub mod Sound

@@ -1,0 +1,73 @@
+-- 01, Numbers: "A sound register set has every field within its width, at most 16 buffered entries, the place reached
+-- inside its figure or read, a figure in progress only in write mode and a read only in read mode."
+use Prim.Native.Nat.{ℕ}
+use mathlib.Core.Bool.{Bool, true, false, not, _&&_}
+use mathlib.Core.List.{List, [], _∷_}
+use lib.Dec.{ltb, leb}
+use lib.ListN.{take}
+use Rattle.dots.specs.declared.Cursor.{Cursor}
+use Rattle.registers.specs.declared.Mode.{Mode}
+use Rattle.registers.specs.declared.Mode.the-variants.{Write, Read}
+use Rattle.registers.specs.declared.Work.{Work}
+use Rattle.registers.specs.declared.Work.the-variants.{Idle, Figure, Character, Reading}
+use Rattle.registers.specs.declared.Drawing.{Drawing}
+use Rattle.registers.specs.declared.Pen.{Pen}
+use Rattle.registers.specs.declared.Buffer.{Buffer}
+use Rattle.registers.specs.declared.Progress.{Progress}
+use Rattle.registers.specs.declared.Registers.{Registers}
+use Rattle.registers.specs.Size.{dotsOf, rowsOf, columnsOf}
+
+-- every number of the list is below n
+unfoldable pub allBelow : ℕ → List ℕ → Bool
+allBelow n [] = true
+allBelow n (x ∷ xs) = ltb x n && allBelow n xs
+
+-- "EAD has 18 bits"; the mask's 16 are its type's, as are all widths of 8, 16 and 32 bits
+abbrev pub cursorB : Cursor → Bool
+cursorB c = ltb (c .ead) 262144
+
+-- five type bits, three of DIR; "DC, D, D2, D1, DM 14 bits"
+abbrev pub drawingB : Drawing → Bool
+drawingB f =
+    ltb (f .kind) 32 && ltb (f .dir) 8 && ltb (f .dc) 16384 && ltb (f .d) 16384 && ltb (f .d2) 16384 && ltb (f .d1) 16384
+    && ltb (f .dm) 16384
+
+-- "an 18-bit light-pen address"
+abbrev pub penB : Pen → Bool
+penB p = ltb (p .address) 262144
+
+-- at most sixteen parameters are told apart
+abbrev pub progressB : Progress → Bool
+progressB p = leb (p .next) 16
+
+-- a held entry is a byte in read mode, and may have a command mark in write mode
+abbrev pub markB : Mode → ℕ
+markB Write = 512
+markB Read = 256
+
+-- "at most 16 buffered entries", each within its width
+abbrev pub bufferB : Mode → Buffer → Bool
+bufferB m b = leb (b .count) 16 && allBelow 512 (take 16 (b .entries)) && allBelow (markB m) (take (b .count) (b .entries))
+
+-- "the place reached inside its figure or read"; the running D and the row's start within their widths
+abbrev pub placeB : Drawing → ℕ → Work → Bool
+placeB f zoom Idle = true
+placeB f zoom (Figure k d) = ltb k (dotsOf f) && ltb d 16384
+placeB f zoom (Character row column start) = ltb row (rowsOf f zoom) && ltb column (columnsOf f zoom) && cursorB start
+placeB f zoom (Reading item t) = ltb item (f .dc)
+
+abbrev pub writeB : Mode → Bool
+writeB Write = true
+writeB Read = false
+
+-- "a figure in progress only in write mode and a read only in read mode"
+abbrev pub workB : Mode → Work → Bool
+workB m Idle = true
+workB m (Figure k d) = writeB m
+workB m (Character row column start) = writeB m
+workB m (Reading item t) = not (writeB m)
+
+unfoldable pub soundB : Registers → Bool
+soundB r =
+    cursorB (r .cursor) && drawingB (r .drawing) && penB (r .pen) && progressB (r .progress) && bufferB (r .mode) (r .buffer)
+    && placeB (r .drawing) (r .video .zoom) (r .work) && workB (r .mode) (r .work)

@@ -1,0 +1,292 @@
+// The register set, its fresh values, and the test that it is sound.
+use dots::Cursor;
+use dots::Operation;
+ghost use mathlib.Core.Path.{_≡_};
+ghost use lib.ListN.{take};
+ghost use Rattle.registers.specs.Fresh.{freshSet};
+ghost use Rattle.registers.specs.Size.{factorOf, dotsOf, rowsOf, columnsOf};
+ghost use Rattle.registers.specs.Sound.{
+    allBelow, cursorB, drawingB, markB, bufferB, placeB, writeB, workB, soundB
+};
+
+// Which way the buffer carries bytes.
+pub enum Mode {
+    Write,
+    Read,
+}
+
+// The type of a transfer: a word, low byte first; its low byte; its high byte.
+pub enum Transfer {
+    Word,
+    Low,
+    High,
+}
+
+// A command: none yet, those of the list, and any other byte.
+pub enum Command {
+    Nothing,
+    Reset,
+    Vsync,
+    Cchar,
+    Start,
+    Zoom,
+    Curs,
+    Pram,
+    Pitch,
+    Mask,
+    Figs,
+    Figd,
+    Gchrd,
+    Curd,
+    Lprd,
+    Wdat(Transfer),
+    Rdat(Transfer),
+    Unknown,
+}
+
+// What is in progress.
+pub enum Work {
+    Idle,
+    // FIGD's figure: the dot reached, and the running copy of D.
+    Figure { dot: u32, d: u16 },
+    // GCHRD's character: the row and the dot of it that are reached, and where the row started.
+    Character { row: u32, column: u32, start: Cursor },
+    // A read: the item reached.
+    Reading { item: u16, transfer: Transfer },
+}
+
+// FIGS: the type's five bits (SL, R, A, GC, L), DIR, GD, and DC to DM of 14 bits.
+pub struct Drawing {
+    pub kind: u8,
+    pub dir: u8,
+    pub gd: bool,
+    pub dc: u16,
+    pub d: u16,
+    pub d2: u16,
+    pub d1: u16,
+    pub dm: u16,
+}
+
+// Bytes that are stored and not acted on, but for ZOOM's low nibble.
+pub struct Video {
+    pub zoom: u8,
+    pub display: bool,
+    pub vsync: bool,
+    pub sync: [u8; 8],
+    pub cchar: [u8; 3],
+}
+
+// The light-pen address, and whether it is news.
+pub struct Pen {
+    pub address: u32,
+    pub set: bool,
+}
+
+// The first `count` entries are held, the oldest first. An entry is a byte, with 256 more for a command mark.
+pub struct Buffer {
+    pub entries: [u16; 16],
+    pub count: u8,
+}
+
+// The command in progress: where its next parameter goes, and the first byte of a half-sent word.
+pub struct Progress {
+    pub command: Command,
+    pub next: u8,
+    pub low: u8,
+}
+
+pub struct Registers {
+    pub cursor: Cursor,
+    pub pitch: u8,
+    pub drawing: Drawing,
+    pub op: Operation,
+    pub ram: [u8; 16],
+    pub video: Video,
+    pub pen: Pen,
+    pub mode: Mode,
+    pub buffer: Buffer,
+    pub progress: Progress,
+    pub work: Work,
+}
+
+// The fresh set.
+pub fn fresh() -> Registers
+    ensures { λ q. ⌜ q ≡ freshSet ⌝ }
+{
+    Registers {
+        cursor: Cursor { ead: 0, mask: 0 },
+        pitch: 0,
+        drawing: Drawing {
+            kind: 0,
+            dir: 0,
+            gd: false,
+            dc: 0,
+            d: 8,
+            d2: 8,
+            d1: 16383,
+            dm: 16383,
+        },
+        op: Operation::Replace,
+        ram: [0; 16],
+        video: Video {
+            zoom: 0,
+            display: false,
+            vsync: false,
+            sync: [0; 8],
+            cchar: [0; 3],
+        },
+        pen: Pen {
+            address: 0,
+            set: false,
+        },
+        mode: Mode::Write,
+        buffer: Buffer {
+            entries: [0; 16],
+            count: 0,
+        },
+        progress: Progress {
+            command: Command::Nothing,
+            next: 0,
+            low: 0,
+        },
+        work: Work::Idle,
+    }
+}
+
+// The dots of the figure that FIGD draws.
+pub fn dots_of(f: Drawing) -> u32
+    ensures { λ n. ⌜ n ≡ dotsOf f ⌝ }
+{
+    if (f.kind == 0) | (f.kind == 1) {
+        return f.dc as u32 + 1;
+    }
+    if f.kind == 8 {
+        return f.d as u32 + f.d2 as u32 + f.d as u32 + f.d2 as u32;
+    }
+    0
+}
+
+// ZOOM's low nibble + 1.
+pub fn factor_of(zoom: u8) -> u32
+    ensures { λ n. ⌜ n ≡ factorOf zoom ⌝ }
+{
+    zoom as u32 % 16 + 1
+}
+
+// The rows of the character that GCHRD draws.
+pub fn rows_of(f: Drawing, zoom: u8) -> u32
+    ensures { λ n. ⌜ n ≡ rowsOf f zoom ⌝ }
+{
+    if f.kind == 2 {
+        return (f.dc as u32 + 1) * factor_of(zoom);
+    }
+    0
+}
+
+// The dots in each of them.
+pub fn columns_of(f: Drawing, zoom: u8) -> u32
+    ensures { λ n. ⌜ n ≡ columnsOf f zoom ⌝ }
+{
+    f.d as u32 * factor_of(zoom)
+}
+
+fn cursor_fits(c: Cursor) -> bool
+    ensures { λ t. ⌜ t ≡ cursorB c ⌝ }
+{
+    c.ead < 262144
+}
+
+fn drawing_fits(f: Drawing) -> bool
+    ensures { λ t. ⌜ t ≡ drawingB f ⌝ }
+{
+    (f.kind < 32)
+        & (f.dir < 8)
+        & (f.dc < 16384)
+        & (f.d < 16384)
+        & (f.d2 < 16384)
+        & (f.d1 < 16384)
+        & (f.dm < 16384)
+}
+
+// The first n of the entries are below a bound.
+fn entries_fit(entries: [u16; 16], below: u16, n: u8) -> bool
+    ensures { λ t. ⌜ t ≡ allBelow below (take n entries) ⌝ }
+{
+    let held = n as usize;
+    let mut i: usize = 0;
+    while i < 16 {
+        if (i < held) & (below <= entries[i]) {
+            return false;
+        }
+        i += 1;
+    }
+    true
+}
+
+// One more than the greatest entry that may be held.
+fn mark_of(m: Mode) -> u16
+    ensures { λ n. ⌜ n ≡ markB m ⌝ }
+{
+    match m {
+        Mode::Write => 512,
+        Mode::Read => 256,
+    }
+}
+
+fn buffer_fits(m: Mode, b: Buffer) -> bool
+    ensures { λ t. ⌜ t ≡ bufferB m b ⌝ }
+{
+    let entries = b.entries;
+    let whole = entries_fit(entries, 512, 16);
+    let held = entries_fit(entries, mark_of(m), b.count);
+    (b.count <= 16) & whole & held
+}
+
+fn place_fits(f: Drawing, zoom: u8, w: Work) -> bool
+    ensures { λ t. ⌜ t ≡ placeB f zoom w ⌝ }
+{
+    match w {
+        Work::Idle => true,
+        Work::Figure { dot, d } => (dot < dots_of(f)) & (d < 16384),
+        Work::Character { row, column, start } => {
+            (row < rows_of(f, zoom)) & (column < columns_of(f, zoom)) & cursor_fits(start)
+        }
+        Work::Reading { item, transfer: _ } => item < f.dc,
+    }
+}
+
+// A figure in write mode, a read in read mode.
+fn work_fits(m: Mode, w: Work) -> bool
+    ensures { λ t. ⌜ t ≡ workB m w ⌝ }
+{
+    match w {
+        Work::Idle => true,
+        Work::Figure { dot: _, d: _ } => is_write(m),
+        Work::Character { row: _, column: _, start: _ } => is_write(m),
+        Work::Reading { item: _, transfer: _ } => !is_write(m),
+    }
+}
+
+pub fn is_write(m: Mode) -> bool
+    ensures { λ t. ⌜ t ≡ writeB m ⌝ }
+{
+    match m {
+        Mode::Write => true,
+        Mode::Read => false,
+    }
+}
+
+// A sound register set.
+pub fn sound(r: Registers) -> bool
+    ensures { λ t. ⌜ t ≡ soundB r ⌝ }
+{
+    let mode = r.mode;
+    let work = r.work;
+    let buffer = r.buffer;
+    let cursor = cursor_fits(r.cursor);
+    let drawing = drawing_fits(r.drawing);
+    let held = buffer_fits(mode, buffer);
+    let place = place_fits(r.drawing, r.video.zoom, work);
+    let kept = work_fits(mode, work);
+    cursor & drawing & (r.pen.address < 262144) & (r.progress.next <= 16) & held & place & kept
+}
