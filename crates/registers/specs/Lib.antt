@@ -2,3 +2,5 @@ pub mod Put
 pub mod Fresh
 pub mod Size
 pub mod Sound
+pub mod Buffer
+pub mod State

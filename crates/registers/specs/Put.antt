@@ -1,5 +1,6 @@
 -- The register set with one register changed; all others stay.
 use Prim.Native.Nat.{ℕ}
+use mathlib.Core.Bool.{Bool}
 use mathlib.Core.List.{List}
 use Rattle.dots.specs.declared.Cursor.{Cursor}
 use Rattle.dots.specs.declared.Operation.{Operation}
@@ -9,6 +10,7 @@ use Rattle.registers.specs.declared.Drawing.{Drawing}
 use Rattle.registers.specs.declared.Video.{Video}
 use Rattle.registers.specs.declared.Pen.{Pen}
 use Rattle.registers.specs.declared.Buffer.{Buffer}
+use Rattle.registers.specs.declared.Command.{Command}
 use Rattle.registers.specs.declared.Progress.{Progress}
 use Rattle.registers.specs.declared.Registers.{Registers}
 
@@ -44,3 +46,44 @@ putProgress r x = record { cursor = r .cursor; pitch = r .pitch; drawing = r .dr
 
 abbrev pub putWork : Registers → Work → Registers
 putWork r x = record { cursor = r .cursor; pitch = r .pitch; drawing = r .drawing; op = r .op; ram = r .ram; video = r .video; pen = r .pen; mode = r .mode; buffer = r .buffer; progress = r .progress; work = x }
+
+-- .. one of its bytes or bits for the screen
+abbrev pub putZoom : Video → ℕ → Video
+putZoom r x = record { zoom = x; display = r .display; vsync = r .vsync; sync = r .sync; cchar = r .cchar }
+
+abbrev pub putDisplay : Video → Bool → Video
+putDisplay r x = record { zoom = r .zoom; display = x; vsync = r .vsync; sync = r .sync; cchar = r .cchar }
+
+abbrev pub putVsync : Video → Bool → Video
+putVsync r x = record { zoom = r .zoom; display = r .display; vsync = x; sync = r .sync; cchar = r .cchar }
+
+abbrev pub putSync : Video → List ℕ → Video
+putSync r x = record { zoom = r .zoom; display = r .display; vsync = r .vsync; sync = x; cchar = r .cchar }
+
+abbrev pub putCchar : Video → List ℕ → Video
+putCchar r x = record { zoom = r .zoom; display = r .display; vsync = r .vsync; sync = r .sync; cchar = x }
+
+-- .. one of its drawing registers
+abbrev pub putKind : Drawing → ℕ → Drawing
+putKind r x = record { kind = x; dir = r .dir; gd = r .gd; dc = r .dc; d = r .d; d2 = r .d2; d1 = r .d1; dm = r .dm }
+
+abbrev pub putDir : Drawing → ℕ → Drawing
+putDir r x = record { kind = r .kind; dir = x; gd = r .gd; dc = r .dc; d = r .d; d2 = r .d2; d1 = r .d1; dm = r .dm }
+
+abbrev pub putGd : Drawing → Bool → Drawing
+putGd r x = record { kind = r .kind; dir = r .dir; gd = x; dc = r .dc; d = r .d; d2 = r .d2; d1 = r .d1; dm = r .dm }
+
+abbrev pub putDc : Drawing → ℕ → Drawing
+putDc r x = record { kind = r .kind; dir = r .dir; gd = r .gd; dc = x; d = r .d; d2 = r .d2; d1 = r .d1; dm = r .dm }
+
+abbrev pub putD : Drawing → ℕ → Drawing
+putD r x = record { kind = r .kind; dir = r .dir; gd = r .gd; dc = r .dc; d = x; d2 = r .d2; d1 = r .d1; dm = r .dm }
+
+abbrev pub putD2 : Drawing → ℕ → Drawing
+putD2 r x = record { kind = r .kind; dir = r .dir; gd = r .gd; dc = r .dc; d = r .d; d2 = x; d1 = r .d1; dm = r .dm }
+
+abbrev pub putD1 : Drawing → ℕ → Drawing
+putD1 r x = record { kind = r .kind; dir = r .dir; gd = r .gd; dc = r .dc; d = r .d; d2 = r .d2; d1 = x; dm = r .dm }
+
+abbrev pub putDm : Drawing → ℕ → Drawing
+putDm r x = record { kind = r .kind; dir = r .dir; gd = r .gd; dc = r .dc; d = r .d; d2 = r .d2; d1 = r .d1; dm = x }

@@ -6,7 +6,15 @@ ghost use lib.ListN.{take};
 ghost use Rattle.registers.specs.Fresh.{freshSet};
 ghost use Rattle.registers.specs.Size.{factorOf, dotsOf, rowsOf, columnsOf};
 ghost use Rattle.registers.specs.Sound.{
-    allBelow, cursorB, drawingB, markB, bufferB, placeB, writeB, workB, soundB
+  allBelow,
+  cursorB,
+  drawingB,
+  markB,
+  bufferB,
+  placeB,
+  writeB,
+  workB,
+  soundB,
 };
 
 // Which way the buffer carries bytes.
@@ -48,11 +56,21 @@ pub enum Command {
 pub enum Work {
     Idle,
     // FIGD's figure: the dot reached, and the running copy of D.
-    Figure { dot: u32, d: u16 },
+    Figure {
+        dot: u32,
+        d: u16,
+    },
     // GCHRD's character: the row and the dot of it that are reached, and where the row started.
-    Character { row: u32, column: u32, start: Cursor },
+    Character {
+        row: u32,
+        column: u32,
+        start: Cursor,
+    },
     // A read: the item reached.
-    Reading { item: u16, transfer: Transfer },
+    Reading {
+        item: u16,
+        transfer: Transfer,
+    },
 }
 
 // FIGS: the type's five bits (SL, R, A, GC, L), DIR, GD, and DC to DM of 14 bits.
@@ -262,8 +280,15 @@ fn work_fits(m: Mode, w: Work) -> bool
     match w {
         Work::Idle => true,
         Work::Figure { dot: _, d: _ } => is_write(m),
-        Work::Character { row: _, column: _, start: _ } => is_write(m),
-        Work::Reading { item: _, transfer: _ } => !is_write(m),
+        Work::Character {
+            row: _,
+            column: _,
+            start: _,
+        } => is_write(m),
+        Work::Reading {
+            item: _,
+            transfer: _,
+        } => !is_write(m),
     }
 }
 

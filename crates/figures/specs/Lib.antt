@@ -1,0 +1,3 @@
+pub mod Figure
+pub mod Character
+pub mod Reading

@@ -1,0 +1,121 @@
+-- 01, Commands: what a command byte does when it is taken from the buffer.
+use Prim.Native.Nat.{ℕ, _/_, _%_}
+use mathlib.Core.Bool.{Bool, true, false, cond}
+use mathlib.Core.List.{List, [], _∷_, _++_}
+use lib.Dec.{eqb, ltb}
+use lib.ListN.{replicate}
+use Rattle.dots.specs.declared.Cursor.{Cursor}
+use Rattle.dots.specs.declared.Operation.{Operation}
+use Rattle.dots.specs.declared.Operation.the-variants as operation
+use Rattle.registers.specs.declared.Mode.the-variants as mode
+use Rattle.registers.specs.declared.Transfer.{Transfer}
+use Rattle.registers.specs.declared.Command.{Command}
+use Rattle.registers.specs.declared.Command.the-variants.{Nothing, Reset, Vsync, Cchar, Start, Zoom, Curs, Pram, Pitch, Mask, Figs, Figd, Gchrd, Curd, Lprd, Wdat, Rdat, Unknown}
+use Rattle.registers.specs.declared.Work.the-variants.{Idle, Figure, Character, Reading}
+use Rattle.registers.specs.declared.Pen.{Pen}
+use Rattle.registers.specs.declared.Buffer.{Buffer}
+use Rattle.registers.specs.declared.Progress.{Progress}
+use Rattle.registers.specs.declared.Registers.{Registers}
+use Rattle.registers.specs.Fresh.{freshDrawing, emptyBuffer}
+use Rattle.registers.specs.Size.{dotsOf, rowsOf, columnsOf}
+use Rattle.registers.specs.Put.{putDrawing, putOp, putVideo, putPen, putMode, putBuffer, putProgress, putWork, putDisplay, putVsync}
+use Rattle.commands.specs.Decode.{commandOf}
+
+-- the command in progress is this one, with no parameter taken; "PRAM 70 + address"
+abbrev pub firstOf : Command → ℕ → ℕ
+firstOf Pram b = b % 16
+firstOf Nothing b = 0
+firstOf Reset b = 0
+firstOf Vsync b = 0
+firstOf Cchar b = 0
+firstOf Start b = 0
+firstOf Zoom b = 0
+firstOf Curs b = 0
+firstOf Pitch b = 0
+firstOf Mask b = 0
+firstOf Figs b = 0
+firstOf Figd b = 0
+firstOf Gchrd b = 0
+firstOf Curd b = 0
+firstOf Lprd b = 0
+firstOf (Wdat t) b = 0
+firstOf (Rdat t) b = 0
+firstOf Unknown b = 0
+
+abbrev pub begun : Command → ℕ → Progress
+begun c b = record { command = c; next = firstOf c b; low = 0 }
+
+-- "buffer emptied, write mode, figure or read ended where it stands, display off; other registers kept; parameters that follow it load the eight sync bytes"
+unfoldable pub resetDone : Registers → Registers
+resetDone r =
+    putProgress (putWork (putBuffer (putMode (putVideo r (putDisplay (r .video) false)) mode.Write) emptyBuffer) Idle) (begun Reset 0)
+
+-- "discard the entries behind them and turn to read mode"
+abbrev pub turned : Registers → Buffer → Registers
+turned r b = putMode (putBuffer r b) mode.Read
+
+-- "EAD in three bytes, mask in two", low byte first
+abbrev pub cursorBytes : Cursor → Buffer
+cursorBytes c =
+    record {
+      entries = c .ead % 256 ∷ c .ead / 256 % 256 ∷ c .ead / 65536 % 256 ∷ c .mask % 256 ∷ c .mask / 256 ∷ replicate 11 0;
+      count = 5;
+    }
+
+-- "LPRD (three bytes, clears bit 7)"
+abbrev pub penBytes : Pen → Buffer
+penBytes p =
+    record {
+      entries = p .address % 256 ∷ p .address / 256 % 256 ∷ p .address / 65536 % 256 ∷ replicate 13 0;
+      count = 3;
+    }
+
+abbrev pub penRead : Pen → Pen
+penRead p = record { address = p .address; set = false }
+
+-- "0 REPLACE .., 1 COMPLEMENT .., 2 RESET .., 3 SET": the two low bits of WDAT's byte
+unfoldable pub operationOf : ℕ → Operation
+operationOf b =
+    cond (eqb (b % 4) 0) operation.Replace
+    (cond (eqb (b % 4) 1) operation.Complement (cond (eqb (b % 4) 2) operation.Reset operation.Set))
+
+-- FIGD: "A figure of no dots .. changes nothing more and ends in the unit that takes its command"; D is copied
+unfoldable pub figureBegun : Registers → Registers
+figureBegun r = cond (ltb 0 (dotsOf (r .drawing))) (putWork r (Figure 0 (r .drawing .d))) r
+
+-- GCHRD likewise, from the place where EAD and mask stand
+unfoldable pub characterBegun : Registers → Registers
+characterBegun r =
+    cond (ltb 0 (rowsOf (r .drawing) (r .video .zoom))) (cond (ltb 0 (columnsOf (r .drawing) (r .video .zoom))) (putWork r (Character 0 0 (r .cursor))) r) r
+
+-- RDAT: "a read of no items once the mode is turned, changes nothing more"
+unfoldable pub readBegun : Transfer → Registers → Registers
+readBegun t r = cond (ltb 0 (r .drawing .dc)) (putWork (turned r emptyBuffer) (Reading 0 t)) (turned r emptyBuffer)
+
+abbrev pub commandBy : Command → ℕ → Registers → Registers
+commandBy Nothing b r = r
+commandBy Reset b r = resetDone r
+-- the low bit of VSYNC's byte is stored
+commandBy Vsync b r = putVideo r (putVsync (r .video) (eqb (b % 2) 1))
+commandBy Cchar b r = r
+-- START turns the display on
+commandBy Start b r = putVideo r (putDisplay (r .video) true)
+commandBy Zoom b r = r
+commandBy Curs b r = r
+commandBy Pram b r = r
+commandBy Pitch b r = r
+commandBy Mask b r = r
+-- "Taking the FIGS command byte first gives DC, D, D2, D1 and DM their fresh values; type, DIR and GD stay."
+commandBy Figs b r = putDrawing r (freshDrawing (r .drawing))
+commandBy Figd b r = figureBegun r
+commandBy Gchrd b r = characterBegun r
+commandBy Curd b r = turned r (cursorBytes (r .cursor))
+commandBy Lprd b r = putPen (turned r (penBytes (r .pen))) (penRead (r .pen))
+-- "WDAT's command byte sets the operation for later figures."
+commandBy (Wdat t) b r = putOp r (operationOf b)
+commandBy (Rdat t) b r = readBegun t r
+-- "Any other byte, or an invalid type, ends the previous command and swallows its own parameters."
+commandBy Unknown b r = r
+
+unfoldable pub commandTaken : ℕ → Registers → Registers
+commandTaken b r = commandBy (commandOf b) b (putProgress r (begun (commandOf b) b))

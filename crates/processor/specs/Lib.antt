@@ -1,0 +1,4 @@
+pub mod Command
+pub mod Parameter
+pub mod Wdat
+pub mod Entry
