@@ -72,13 +72,14 @@ walk-same dirs dirs′ p c zero h = refl
 walk-same dirs dirs′ p c (suc n) h =
     ap₂ (λ (d : ℕ) (k : Cursor). stepOf d p k) (h n (omega arith)) (walk-same dirs dirs′ p c n (λ i k. h i (omega arith)))
 
--- the plane's width, and that its words are within EAD's 18 bits
-pub record Small (p h : ℕ) : Type 0 where
-  pub wide : p < 262144
+-- the sizes that 01 allows a plane (none is too small here)
+pub record Sized (p h : ℕ) : Type 0 where
+  pub wide : p < 256
+  pub tall : h ≤ 4096
   pub area : p * h ≤ 262144
 
 -- a walk from neighbour to neighbour in the plane stands at each of them in turn
-module _ (p h : ℕ) (small : Small p h) (dirs X Y : ℕ → ℕ) where
+module _ (p h : ℕ) (sized : Sized p h) (dirs X Y : ℕ → ℕ) where
   pub walks : (n : ℕ) → ((i : ℕ) → i ≤ n → InPlane p h (X i) (Y i))
       → ((i : ℕ) → i < n → Next (dirs i) (X i) (Y i) (X (suc i)) (Y (suc i)))
       → walk dirs p (cursorAt (address p (X 0) (Y 0))) n ≡ cursorAt (address p (X n) (Y n))
@@ -86,5 +87,5 @@ module _ (p h : ℕ) (small : Small p h) (dirs X Y : ℕ → ℕ) where
   walks zero s v = refl
   walks (suc n) s v =
       ap (stepOf (dirs n) p) (walks n (λ i k. s i (omega arith)) (λ i k. v i (omega arith)))
-      ∙ neighbour p (X n) (Y n) (X (suc n)) (Y (suc n)) (address-lt p h _ _ (small .area) (s n (omega arith))) (address-lt p h _ _ (small .area) (s (suc n) (omega arith)))
-      (small .wide) (dirs n) (v n (omega arith))
+      ∙ neighbour p (X n) (Y n) (X (suc n)) (Y (suc n)) (address-lt p h _ _ (sized .area) (s n (omega arith))) (address-lt p h _ _ (sized .area) (s (suc n) (omega arith)))
+      (omega (arith, sized .wide)) (dirs n) (v n (omega arith))
