@@ -5,3 +5,5 @@ pub mod FigureLaws
 pub mod ErrorLaws
 pub mod OctantLaws
 pub mod LineLaws
+pub mod BorderLaws
+pub mod RectangleLaws
