@@ -1,9 +1,9 @@
 -- The eight octants at once: which way a line goes on each coordinate, and that each of the controller's moves goes to the
 -- line's next dot. The longer way goes on by one at each move; the shorter one stays at an axis move and goes on at a
 -- diagonal one. What the directions do is sixteen facts, each by computing.
-use mathlib.Core.Path.{_≡_, refl, sym, ap, _∙_}
+use mathlib.Core.Path.{_≡_, refl}
 use mathlib.Core.Bool.{Bool, true, false, cond}
-use Prim.Native.Nat.{ℕ, zero, suc, _+_, _-_, _*_, _/_, _%_, _≤_, _<_, min, max}
+use Prim.Native.Nat.{ℕ, suc, _+_, _-_, _%_, _≤_, _<_}
 use native.Mathlib.Omega.{arith}
 use Rattle.geometry.specs.Plane.{minor}
 use Rattle.geometry.proofs.WalkLaws.{dx, dy, Next}

@@ -1,9 +1,9 @@
 -- A walk of the controller in the plane. A step along a direction is a sum on the dot's bit address (dots' StepLaws), and
 -- so is a change of x and y; the two sums are one. A coordinate's change is told one too large, so that it is a natural
 -- number: 0 back, 1 none, 2 forth.
-use mathlib.Core.Path.{_≡_, refl, sym, ap, ap₂, _∙_}
-use mathlib.Core.List.{List, [], _∷_}
-use Prim.Native.Nat.{ℕ, zero, suc, _+_, _-_, _*_, _/_, _%_, _≤_, _<_}
+use mathlib.Core.Path.{_≡_, refl, ap, ap₂, _∙_}
+use mathlib.Core.List.{[], _∷_}
+use Prim.Native.Nat.{ℕ, zero, suc, _+_, _*_, _/_, _≤_, _<_}
 use native.Mathlib.Nat.{add-mul, suc-mul, mul-le-mul-right, mul-left-comm, mul-comm}
 use native.Mathlib.Omega.{arith}
 use lib.ListN.{getD}

@@ -1,7 +1,7 @@
 -- 01, Drawing sheets, 'Plane': the dots of the plane, and what each figure makes of a picture. Of the controller it knows
 -- the logic unit alone, which 01 names.
 use Prim.Native.Nat.{ℕ, zero, suc, _+_, _-_, _*_, _/_, _<_, min, max}
-use mathlib.Core.Bool.{Bool, true, false, cond, _&&_, _||_}
+use mathlib.Core.Bool.{Bool, cond, _&&_, _||_}
 use mathlib.Core.List.{List}
 use lib.Dec.{eqb, ltb, leb}
 use lib.ListN.{getD}
