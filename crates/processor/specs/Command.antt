@@ -19,36 +19,20 @@ use Rattle.registers.specs.declared.Registers.{Registers}
 use Rattle.registers.specs.Fresh.{freshDrawing, emptyBuffer}
 use Rattle.registers.specs.Size.{dotsOf, rowsOf, columnsOf}
 use Rattle.registers.specs.Put.{putDrawing, putOp, putVideo, putPen, putMode, putBuffer, putProgress, putWork, putDisplay, putVsync}
-use Rattle.commands.specs.Decode.{commandOf}
+use Rattle.commands.specs.Decode.{within, commandOf}
 
--- the command in progress is this one, with no parameter taken; "PRAM 70 + address"
-abbrev pub firstOf : Command → ℕ → ℕ
-firstOf Pram b = b % 16
-firstOf Nothing b = 0
-firstOf Reset b = 0
-firstOf Vsync b = 0
-firstOf Cchar b = 0
-firstOf Start b = 0
-firstOf Zoom b = 0
-firstOf Curs b = 0
-firstOf Pitch b = 0
-firstOf Mask b = 0
-firstOf Figs b = 0
-firstOf Figd b = 0
-firstOf Gchrd b = 0
-firstOf Curd b = 0
-firstOf Lprd b = 0
-firstOf (Wdat t) b = 0
-firstOf (Rdat t) b = 0
-firstOf Unknown b = 0
+-- where a command's first parameter goes: "PRAM 70 + address", all others from 0 on
+abbrev pub firstOf : ℕ → ℕ
+firstOf b = cond (within 0x70 0x7F b) (b % 16) 0
 
-abbrev pub begun : Command → ℕ → Progress
-begun c b = record { command = c; next = firstOf c b; low = 0 }
+-- the command in progress is this one, with no parameter taken
+abbrev pub begun : ℕ → Progress
+begun b = record { command = commandOf b; next = firstOf b; low = 0 }
 
 -- "buffer emptied, write mode, figure or read ended where it stands, display off; other registers kept; parameters that follow it load the eight sync bytes"
 unfoldable pub resetDone : Registers → Registers
 resetDone r =
-    putProgress (putWork (putBuffer (putMode (putVideo r (putDisplay (r .video) false)) mode.Write) emptyBuffer) Idle) (begun Reset 0)
+    putProgress (putWork (putBuffer (putMode (putVideo r (putDisplay (r .video) false)) mode.Write) emptyBuffer) Idle) (record { command = Reset; next = 0; low = 0 })
 
 -- "discard the entries behind them and turn to read mode"
 abbrev pub turned : Registers → Buffer → Registers
@@ -118,4 +102,4 @@ commandBy (Rdat t) b r = readBegun t r
 commandBy Unknown b r = r
 
 unfoldable pub commandTaken : ℕ → Registers → Registers
-commandTaken b r = commandBy (commandOf b) b (putProgress r (begun (commandOf b) b))
+commandTaken b r = commandBy (commandOf b) b (putProgress r (begun b))

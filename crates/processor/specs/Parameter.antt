@@ -1,5 +1,5 @@
--- 01, Commands: what a parameter byte does when it is taken. "Parameter bytes follow 002's layouts and take effect singly as
--- they are taken; surplus ones, and those before any command, are ignored, PRAM past address 15 also."
+-- 01, Commands: what the parameter byte v does to a register, i being its place among the command's parameters, from 0. "Parameter
+-- bytes follow 002's layouts and take effect singly as they are taken; surplus ones .. are ignored".
 use Prim.Native.Nat.{ℕ, _+_, _*_, _/_, _%_, _^_}
 use mathlib.Core.Bool.{Bool, cond}
 use lib.Dec.{eqb, ltb}
@@ -7,15 +7,7 @@ use lib.ListN.{set}
 use Rattle.dots.specs.declared.Cursor.{Cursor}
 use Rattle.registers.specs.declared.Drawing.{Drawing}
 use Rattle.registers.specs.declared.Video.{Video}
-use Rattle.registers.specs.declared.Progress.{Progress}
-use Rattle.registers.specs.declared.Registers.{Registers}
-use Rattle.registers.specs.declared.Command.{Command}
-use Rattle.registers.specs.declared.Command.the-variants.{Nothing, Reset, Vsync, Cchar, Start, Zoom, Curs, Pram, Pitch, Mask, Figs, Figd, Gchrd, Curd, Lprd, Wdat, Rdat, Unknown}
-use Rattle.registers.specs.Put.{putCursor, putPitch, putDrawing, putRam, putVideo, putProgress, putZoom, putSync, putCchar, putKind, putDir, putGd, putDc, putD, putD2, putD1, putDm}
-
--- one parameter more has been taken; past the sixteenth they are not told apart
-abbrev pub counted : Progress → Progress
-counted p = record { command = p .command; next = cond (ltb (p .next) 16) (p .next + 1) 16; low = p .low }
+use Rattle.registers.specs.Put.{putZoom, putSync, putCchar, putKind, putDir, putGd, putDc, putD, putD2, putD1, putDm}
 
 -- a byte of a number takes its place, the other bits stay: the low byte; the high byte of 16 bits; of 14 bits
 abbrev pub lowByte : ℕ → ℕ → ℕ
@@ -64,28 +56,3 @@ ccharBy i v w = cond (ltb i 3) (putCchar w (set (w .cchar) i v)) w
 
 unfoldable pub zoomBy : ℕ → ℕ → Video → Video
 zoomBy i v w = cond (eqb i 0) (putZoom w v) w
-
--- the parameter v of a command, i being where it goes
-abbrev pub parameterBy : Command → ℕ → ℕ → Registers → Registers
-parameterBy Nothing i v r = r
-parameterBy Reset i v r = putVideo r (syncBy i v (r .video))
-parameterBy Vsync i v r = r
-parameterBy Cchar i v r = putVideo r (ccharBy i v (r .video))
-parameterBy Start i v r = r
-parameterBy Zoom i v r = putVideo r (zoomBy i v (r .video))
-parameterBy Curs i v r = putCursor r (cursBy i v (r .cursor))
-parameterBy Pram i v r = cond (ltb i 16) (putRam r (set (r .ram) i v)) r
-parameterBy Pitch i v r = cond (eqb i 0) (putPitch r v) r
-parameterBy Mask i v r = putCursor r (maskBy i v (r .cursor))
-parameterBy Figs i v r = putDrawing r (figsBy i v (r .drawing))
-parameterBy Figd i v r = r
-parameterBy Gchrd i v r = r
-parameterBy Curd i v r = r
-parameterBy Lprd i v r = r
-parameterBy (Wdat t) i v r = r
-parameterBy (Rdat t) i v r = r
-parameterBy Unknown i v r = r
-
-unfoldable pub parameterTaken : ℕ → Registers → Registers
-parameterTaken v r =
-    parameterBy (r .progress .command) (r .progress .next) v (putProgress r (counted (r .progress)))

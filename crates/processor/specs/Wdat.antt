@@ -33,7 +33,7 @@ unfoldable pub setDone : Transfer → Registers → Registers
 setDone t r =
     putProgress (putCursor r (wordMoveOf (r .drawing .dir) (r .pitch) (r .cursor))) (wdatProgress t 0 0)
 
-unfoldable pub wdatTaken : Transfer → ℕ → State → State
-wdatTaken t v s =
-    cond (halfB t (s .regs .progress .next)) (state (putProgress (s .regs) (wdatProgress t 1 v)) (s .mem))
-    (state (setDone t (s .regs)) (cycled (s .regs .op) (wdatPattern t (s .regs .progress .low) v) (s .regs .cursor) (s .mem)))
+unfoldable pub wdatTaken : Transfer → ℕ → ℕ → Registers → List ℕ → State
+wdatTaken t i v r m =
+    cond (halfB t i) (state (putProgress r (wdatProgress t 1 v)) m)
+    (state (setDone t r) (cycled (r .op) (wdatPattern t (r .progress .low) v) (r .cursor) m))
