@@ -4,3 +4,4 @@ pub mod Size
 pub mod Sound
 pub mod Buffer
 pub mod State
+pub mod Typed

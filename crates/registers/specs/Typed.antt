@@ -1,0 +1,16 @@
+-- What the types of a register set and of a lent memory say by themselves, as far as the laws use it: a `u16` is below 65,536,
+-- a `[u16; 16]` has sixteen elements. Every value of these types in a program has it; a law over plain numbers asks for it.
+use mathlib.Core.Path.{_≡_}
+use mathlib.Core.List.{List}
+use Prim.Native.Nat.{ℕ, _<_}
+use lib.ListN.{length, getD}
+use Rattle.registers.specs.declared.Registers.{Registers}
+
+pub record Typed (r : Registers) : Type 0 where
+  pub mask : r .cursor .mask < 65536
+  pub ram : length (r .ram) ≡ 16
+  pub entries : length (r .buffer .entries) ≡ 16
+
+-- each word has 16 bits
+pub record Words (m : List ℕ) : Type 0 where
+  pub below : (j : ℕ) → getD m j 0 < 65536
