@@ -1,3 +1,4 @@
+-- `begin` notes the command, with no parameter taken.
 use borrow.Author.Needs.{needs}
 use Rattle.processor.proofs.command.begin.Statement.{statement}
 use Rattle.processor.proofs.command.begin.Tie as tie
@@ -11,7 +12,7 @@ first-of-requires c κs = search needs
 
 -- src/command.rt:24:1
 returns : tie.Need-returns
-returns c = ?
+returns c = rw (c .before .before .before .before .before .before .first-of .ensures)
 
 pub begin-spec : {M : Type 1} → statement M
 begin-spec = tie.close (tie.spec first-of-requires returns)

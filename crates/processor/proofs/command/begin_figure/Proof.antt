@@ -1,3 +1,6 @@
+-- `begin_figure` is the definition: dots or none.
+use Rattle.processor.specs.Command.{figureBegun}
+use borrow.Author.Tests.{lt-ltb, le-ltb}
 use borrow.Author.Needs.{needs}
 use Rattle.processor.proofs.command.begin_figure.Statement.{statement}
 use Rattle.processor.proofs.command.begin_figure.Tie as tie
@@ -16,11 +19,13 @@ work-on-requires c κs = search needs
 
 -- src/command.rt:218:9
 returns : tie.Need-returns
-returns c = ?
+unfolding figureBegun
+returns c = rw (c .work-on .ensures, ← c .before .before .dots-of .ensures, lt-ltb 0 _ (c .before .if1 .taken))
 
 -- src/command.rt:213:1
 returns-2 : tie.Need-returns-2
-returns-2 c = ?
+unfolding figureBegun
+returns-2 c = rw (← c .before .dots-of .ensures, le-ltb 0 _ (c .if1 .left))
 
 pub begin-figure-spec : {M : Type 1} → statement M
 begin-figure-spec = tie.close (tie.spec dots-of-requires work-on-requires returns returns-2)

@@ -1,3 +1,6 @@
+-- `begin_read` is the definition: the mode is turned, and there are items or none.
+use Rattle.processor.specs.Command.{readBegun}
+use borrow.Author.Tests.{lt-ltb, le-ltb}
 use borrow.Author.Needs.{needs}
 use Rattle.processor.proofs.command.begin_read.Statement.{statement}
 use Rattle.processor.proofs.command.begin_read.Tie as tie
@@ -21,11 +24,13 @@ work-on-requires c κs = search needs
 
 -- src/command.rt:241:9
 returns : tie.Need-returns
-returns c = ?
+unfolding readBegun
+returns c = rw (c .work-on .ensures, c .before .before .before .turn .ensures, c .before .before .before .before .no-entries .ensures, lt-ltb 0 (c .before .before .before .before .before .args .r .drawing .dc) (c .before .if1 .taken))
 
 -- src/command.rt:236:1
 returns-2 : tie.Need-returns-2
-returns-2 c = ?
+unfolding readBegun
+returns-2 c = rw (c .before .before .turn .ensures, c .before .before .before .no-entries .ensures, le-ltb 0 (c .before .before .before .before .args .r .drawing .dc) (c .if1 .left))
 
 pub begin-read-spec : {M : Type 1} → statement M
 begin-read-spec =

@@ -1,3 +1,8 @@
+-- `command_taken` decodes the byte, notes the command and goes by cases (`taken-by`).
+use Rattle.processor.proofs.CommandLaws.{taken-by}
+use Rattle.processor.specs.Command.{turned}
+use Rattle.registers.specs.Put.{putOp}
+use mathlib.Core.Path.{refl, _∙_, ap}
 use borrow.Author.Needs.{needs}
 use Rattle.processor.proofs.command.command_taken.Statement.{statement}
 use Rattle.processor.proofs.command.command_taken.Tie as tie
@@ -148,75 +153,75 @@ enum-told-17 c = search needs
 
 -- src/command.rt:248:1
 returns : tie.Need-returns
-returns c = ?
+returns c = taken-by _ _ (c .before .before .before .command-of .ensures) (c .before .before .begin .ensures) (c .enum-told .given .1) refl
 
 -- src/command.rt:248:1
 returns-2 : tie.Need-returns-2
-returns-2 c = ?
+returns-2 c = taken-by _ _ (c .before .before .before .before .command-of .ensures) (c .before .before .before .begin .ensures) (c .before .enum-told2 .given .1) (c .reset-done .ensures)
 
 -- src/command.rt:248:1
 returns-3 : tie.Need-returns-3
-returns-3 c = ?
+returns-3 c = taken-by _ _ (c .before .before .before .before .command-of .ensures) (c .before .before .before .begin .ensures) (c .before .enum-told3 .given .1) (c .master .ensures)
 
 -- src/command.rt:248:1
 returns-4 : tie.Need-returns-4
-returns-4 c = ?
+returns-4 c = taken-by _ _ (c .before .before .before .command-of .ensures) (c .before .before .begin .ensures) (c .enum-told4 .given .1) refl
 
 -- src/command.rt:248:1
 returns-5 : tie.Need-returns-5
-returns-5 c = ?
+returns-5 c = taken-by _ _ (c .before .before .before .before .command-of .ensures) (c .before .before .before .begin .ensures) (c .before .enum-told5 .given .1) (c .start .ensures)
 
 -- src/command.rt:248:1
 returns-6 : tie.Need-returns-6
-returns-6 c = ?
+returns-6 c = taken-by _ _ (c .before .before .before .command-of .ensures) (c .before .before .begin .ensures) (c .enum-told6 .given .1) refl
 
 -- src/command.rt:248:1
 returns-7 : tie.Need-returns-7
-returns-7 c = ?
+returns-7 c = taken-by _ _ (c .before .before .before .command-of .ensures) (c .before .before .begin .ensures) (c .enum-told7 .given .1) refl
 
 -- src/command.rt:248:1
 returns-8 : tie.Need-returns-8
-returns-8 c = ?
+returns-8 c = taken-by _ _ (c .before .before .before .command-of .ensures) (c .before .before .begin .ensures) (c .enum-told8 .given .1) refl
 
 -- src/command.rt:248:1
 returns-9 : tie.Need-returns-9
-returns-9 c = ?
+returns-9 c = taken-by _ _ (c .before .before .before .command-of .ensures) (c .before .before .begin .ensures) (c .enum-told9 .given .1) refl
 
 -- src/command.rt:248:1
 returns-10 : tie.Need-returns-10
-returns-10 c = ?
+returns-10 c = taken-by _ _ (c .before .before .before .command-of .ensures) (c .before .before .begin .ensures) (c .enum-told10 .given .1) refl
 
 -- src/command.rt:248:1
 returns-11 : tie.Need-returns-11
-returns-11 c = ?
+returns-11 c = taken-by _ _ (c .before .before .before .before .command-of .ensures) (c .before .before .before .begin .ensures) (c .before .enum-told11 .given .1) (c .refresh .ensures)
 
 -- src/command.rt:248:1
 returns-12 : tie.Need-returns-12
-returns-12 c = ?
+returns-12 c = taken-by _ _ (c .before .before .before .before .command-of .ensures) (c .before .before .before .begin .ensures) (c .before .enum-told12 .given .1) (c .begin-figure .ensures)
 
 -- src/command.rt:248:1
 returns-13 : tie.Need-returns-13
-returns-13 c = ?
+returns-13 c = taken-by _ _ (c .before .before .before .before .command-of .ensures) (c .before .before .before .begin .ensures) (c .before .enum-told13 .given .1) (c .begin-character .ensures)
 
 -- src/command.rt:248:1
 returns-14 : tie.Need-returns-14
-returns-14 c = ?
+returns-14 c = taken-by _ _ (c .before .before .before .before .before .command-of .ensures) (c .before .before .before .before .begin .ensures) (c .before .before .enum-told14 .given .1) (c .turn .ensures ∙ ap (turned (c .before .before .before .before .begin .result)) (c .before .cursor-bytes .ensures))
 
 -- src/command.rt:248:1
 returns-15 : tie.Need-returns-15
-returns-15 c = ?
+returns-15 c = taken-by _ _ (c .before .before .before .before .command-of .ensures) (c .before .before .before .begin .ensures) (c .before .enum-told15 .given .1) (c .pen-given .ensures)
 
 -- src/command.rt:248:1
 returns-16 : tie.Need-returns-16
-returns-16 c = ?
+returns-16 c = taken-by _ _ (c .before .before .before .before .before .command-of .ensures) (c .before .before .before .before .begin .ensures) (c .before .before .enum-told16 .given .1) (c .operate .ensures ∙ ap (putOp (c .before .before .before .before .begin .result)) (c .before .operation-of .ensures))
 
 -- src/command.rt:248:1
 returns-17 : tie.Need-returns-17
-returns-17 c = ?
+returns-17 c = taken-by _ _ (c .before .before .before .before .before .command-of .ensures) (c .before .before .before .before .begin .ensures) (c .before .before .c .given .1) (c .begin-read .ensures)
 
 -- src/command.rt:248:1
 returns-18 : tie.Need-returns-18
-returns-18 c = ?
+returns-18 c = taken-by _ _ (c .before .before .before .command-of .ensures) (c .before .before .begin .ensures) (c .enum-told17 .given .1) refl
 
 pub command-taken-spec : {M : Type 1} → statement M
 command-taken-spec =

@@ -1,3 +1,4 @@
+-- `pen_given` is the definition, of what its calls ensure.
 use borrow.Author.Needs.{needs}
 use Rattle.processor.proofs.command.pen_given.Statement.{statement}
 use Rattle.processor.proofs.command.pen_given.Tie as tie
@@ -16,7 +17,7 @@ turn-requires c κs = search needs
 
 -- src/command.rt:144:1
 returns : tie.Need-returns
-returns c = ?
+returns c = rw (c .turn .ensures, c .before .pen-bytes .ensures)
 
 pub pen-given-spec : {M : Type 1} → statement M
 pen-given-spec = tie.close (tie.spec pen-bytes-requires turn-requires returns)

@@ -1,3 +1,5 @@
+-- `reset_done` is the definition, register by register.
+use Rattle.processor.specs.Command.{resetDone}
 use borrow.Author.Needs.{needs}
 use Rattle.processor.proofs.command.reset_done.Statement.{statement}
 use Rattle.processor.proofs.command.reset_done.Tie as tie
@@ -11,7 +13,8 @@ no-entries-requires c κs = search needs
 
 -- src/command.rt:49:1
 returns : tie.Need-returns
-returns c = ?
+unfolding resetDone
+returns c = rw (c .before .before .before .before .no-entries .ensures)
 
 pub reset-done-spec : {M : Type 1} → statement M
 reset-done-spec = tie.close (tie.spec no-entries-requires returns)
