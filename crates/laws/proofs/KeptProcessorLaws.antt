@@ -2,7 +2,7 @@
 -- its register's width. Nothing is in progress then, so no place can fall out of its figure; a figure starts only with a dot to
 -- draw, a read only with an item to give.
 use mathlib.Core.Path.{_≡_, refl, sym, _∙_}
-use mathlib.Core.Bool.{Bool, true, false, cond}
+use mathlib.Core.Bool.{Bool, true, false, cond, _&&_}
 use mathlib.Core.List.{List, [], _∷_}
 use Prim.Native.Nat.{ℕ, zero, suc, _+_, _*_, _/_, _%_, _^_, _≤_, _<_}
 use native.Mathlib.Omega.{arith}
@@ -29,8 +29,9 @@ use Rattle.registers.specs.Size.{dotsOf, rowsOf, columnsOf}
 use Rattle.registers.specs.Sound.{allBelow}
 use Rattle.registers.specs.Put.{putCursor, putPitch, putRam, putVideo, putPen, putBuffer, putProgress, putWork, putVsync, putDisplay}
 use Rattle.registers.specs.State.{State, state}
+use Rattle.registers.proofs.BoolLaws.{and-left, and-right}
 use Rattle.commands.specs.Decode.{within, commandOf}
-use Rattle.processor.specs.Command.{begun, resetDone, turned, cursorBytes, penBytes, penRead, operationOf, figureBegun, characterBegun, readBegun, commandBy, commandTaken}
+use Rattle.processor.specs.Command.{begun, resetDone, turned, cursorBytes, penBytes, operationOf, figureBegun, characterBegun, readBegun, commandBy, commandTaken}
 use Rattle.processor.specs.Parameter.{cursBy, maskBy, figsBy, syncBy, ccharBy, zoomBy}
 use Rattle.processor.specs.Wdat.{halfB, wdatPattern, wdatProgress, setDone, wdatTaken}
 use Rattle.processor.specs.Entry.{counted, parameterBy, parameterTaken, entryTaken}
@@ -115,15 +116,16 @@ module _ (r : Registers) (l : Lawful r) (e : r .work ≡ Idle) where
     character-begins : Lawful (characterBegun r)
     unfolding characterBegun
     character-begins =
-        cases Lawful (ltb 0 (rowsOf (r .drawing) (r .video .zoom)))
-        (λ p. cases Lawful (ltb 0 (columnsOf (r .drawing) (r .video .zoom)))
-        (λ q. work-kept r l (Character 0 0 (r .cursor))
+        let rows = rowsOf (r .drawing) (r .video .zoom) in
+        let columns = columnsOf (r .drawing) (r .video .zoom) in
+        cases Lawful (ltb 0 rows && ltb 0 columns)
+        (λ p. work-kept r l (Character 0 0 (r .cursor))
         (record {
-          place = (ltb-true 0 (rowsOf (r .drawing) (r .video .zoom)) p, ltb-true 0 (columnsOf (r .drawing) (r .video .zoom)) q, l .cursor .ead);
+          place =
+              (ltb-true 0 rows (and-left (ltb 0 rows) (ltb 0 columns) p), ltb-true 0 columns (and-right (ltb 0 rows) (ltb 0 columns) p), l .cursor .ead);
           mode = write;
           start = l .cursor .mask;
         }))
-        (λ q. l))
         (λ p. l)
 
     command-by : (c : Command) (b : ℕ) → Lawful (commandBy c b r)
@@ -142,7 +144,8 @@ module _ (r : Registers) (l : Lawful r) (e : r .work ≡ Idle) where
     command-by Gchrd b = character-begins
     command-by Curd b = turned-kept (cursorBytes (r .cursor)) (cursor-bytes (r .cursor) (l .cursor))
     command-by Lprd b =
-        pen-kept (turned r (penBytes (r .pen))) (turned-kept (penBytes (r .pen)) (pen-bytes (r .pen))) (penRead (r .pen)) (l .pen)
+        pen-kept (turned r (penBytes (r .pen))) (turned-kept (penBytes (r .pen)) (pen-bytes (r .pen)))
+        (record { address = r .pen .address; set = false }) (l .pen)
     command-by (Wdat t) b = plain-kept r l (r .pitch) (operationOf b)
     command-by (Rdat t) b = read-kept t
     command-by Unknown b = l
@@ -150,8 +153,8 @@ module _ (r : Registers) (l : Lawful r) (e : r .work ≡ Idle) where
 pub command-kept : (b : ℕ) (r : Registers) → Lawful r → r .work ≡ Idle → r .mode ≡ Write → Lawful (commandTaken b r)
 unfolding commandTaken
 command-kept b r l e write =
-    let first : begun b .next ≤ 16 = either (λ (n : ℕ). n ≤ 16) (within 0x70 0x7F b) (omega arith) (omega arith) in
-    command-by (putProgress r (begun b)) (progress-kept r l (begun b) first) e write (commandOf b) b
+    let first : begun (commandOf b) b .next ≤ 16 = either (λ (n : ℕ). n ≤ 16) (within 0x70 0x7F b) (omega arith) (omega arith) in
+    command-by (putProgress r (begun (commandOf b) b)) (progress-kept r l (begun (commandOf b) b) first) e write (commandOf b) b
 
 -- ---- parameters
 

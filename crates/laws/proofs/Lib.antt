@@ -6,3 +6,4 @@ pub mod KeptProcessorLaws
 pub mod KeptFigureLaws
 pub mod KeptUnitLaws
 pub mod KeptPortLaws
+pub mod RunLaws
