@@ -5,3 +5,6 @@ ghost use Rattle.registers.specs.State.{state};
 ghost use Rattle.processor.specs.Entry.{entryTaken};
 
 pub mod command;
+
+
+
