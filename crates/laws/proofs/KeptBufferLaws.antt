@@ -1,9 +1,9 @@
 -- The buffer stays one of sixteen places, of which at most sixteen are held: an entry more goes to the first free place, and one less
 -- moves the others up with a 0 behind them.
-use mathlib.Core.Path.{_≡_, refl, sym, _∙_}
-use mathlib.Core.Bool.{Bool, true, false, cond}
+use mathlib.Core.Path.{_≡_, refl, _∙_}
+use mathlib.Core.Bool.{Bool, true, false}
 use mathlib.Core.List.{List, [], _∷_, _++_}
-use Prim.Native.Nat.{ℕ, zero, suc, _+_, _-_, _/_, _%_, _≤_, _<_}
+use Prim.Native.Nat.{ℕ, zero, suc, _≤_, _<_}
 use native.Mathlib.Decide.{ℕ-discrete}
 use native.Mathlib.Omega.{arith}
 use lib.Dec.{ltb, leb}
@@ -17,7 +17,7 @@ use Rattle.registers.specs.Fresh.{emptyBuffer}
 use Rattle.registers.specs.Sound.{allBelow, markB}
 use Rattle.registers.specs.Buffer.{pushed, oldest, popped}
 use Rattle.laws.proofs.BranchLaws.{cases}
-use Rattle.laws.proofs.SoundLaws.{BufferFits, below-each}
+use Rattle.laws.proofs.SoundLaws.{below-each}
 use Rattle.laws.proofs.KeptLaws.{Queue}
 
 pub byte-mark : (m : Mode) → 256 ≤ markB m

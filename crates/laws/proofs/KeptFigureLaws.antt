@@ -1,22 +1,19 @@
 -- A unit of a figure or of a read keeps the registers lawful and the memory's words: the place goes on only where the next one is
 -- inside too, the running D wraps below 16384, and each item's bytes are bytes.
-use mathlib.Core.Path.{_≡_, refl, sym, _∙_}
-use mathlib.Core.Bool.{Bool, true, false, cond}
-use mathlib.Core.List.{List}
-use Prim.Native.Nat.{ℕ, _+_, _/_, _%_, _≤_, _<_}
+use mathlib.Core.Path.{_≡_}
+use Prim.Native.Nat.{ℕ, _+_, _/_, _%_, _<_}
 use native.Mathlib.Omega.{arith}
-use lib.Dec.{eqb, ltb, leb}
-use lib.ListN.{getD, length}
+use lib.Dec.{eqb, ltb}
+use lib.ListN.{length}
 use borrow.Author.Tests.{ltb-true}
 use Rattle.dots.specs.declared.Cursor.{Cursor}
 use Rattle.dots.specs.Step.{Fits, stepOf, wordMoveOf}
 use Rattle.dots.specs.Cycle.{metBy}
 use Rattle.dots.proofs.StepLaws.{fits-step}
 use Rattle.registers.specs.declared.Mode.{Mode}
-use Rattle.registers.specs.declared.Mode.the-variants.{Write, Read}
+use Rattle.registers.specs.declared.Mode.the-variants.{Read}
 use Rattle.registers.specs.declared.Transfer.{Transfer}
 use Rattle.registers.specs.declared.Transfer.the-variants.{Word, Low, High}
-use Rattle.registers.specs.declared.Work.{Work}
 use Rattle.registers.specs.declared.Work.the-variants.{Idle, Figure, Character, Reading}
 use Rattle.registers.specs.declared.Drawing.{Drawing}
 use Rattle.registers.specs.declared.Buffer.{Buffer}
@@ -24,7 +21,7 @@ use Rattle.registers.specs.declared.Registers.{Registers}
 use Rattle.registers.specs.Size.{lineKind, dotsOf, rowsOf, columnsOf, factorOf}
 use Rattle.registers.specs.Buffer.{pushed}
 use Rattle.registers.specs.Put.{putCursor, putBuffer, putWork}
-use Rattle.registers.specs.State.{State, state}
+use Rattle.registers.specs.State.{State}
 use Rattle.figures.specs.Figure.{patternAt, negative, errorAfter, directionAt, runningD, figureMoved, figureUnit}
 use Rattle.figures.specs.Character.{characterPattern, nextStart, characterMoved, characterUnit}
 use Rattle.figures.specs.Reading.{roomB, given, readOn, itemGiven, readUnit}

@@ -1,15 +1,13 @@
 -- What every entry of the controller keeps: a register set that is sound and has what its types say (`Lawful`), over a memory of
 -- 16-bit words of one length (`Whole`). A change of one register keeps it if the new value has its part.
-use mathlib.Core.Path.{_≡_, refl, sym, _∙_}
-use mathlib.Core.Bool.{Bool, true, false}
+use mathlib.Core.Path.{_≡_, refl, _∙_}
+use mathlib.Core.Bool.{true}
 use mathlib.Core.List.{List, [], _∷_}
-use Prim.Native.Nat.{ℕ, zero, suc, _+_, _≤_, _<_}
-use native.Mathlib.Omega.{arith}
+use Prim.Native.Nat.{ℕ, zero, suc, _≤_, _<_}
 use lib.ListN.{length, getD, set, length-set}
 use Rattle.dots.specs.declared.Cursor.{Cursor}
 use Rattle.dots.specs.declared.Operation.{Operation}
 use Rattle.dots.specs.Step.{Fits}
-use Rattle.dots.specs.Logic.{combined}
 use Rattle.dots.specs.Cycle.{metBy, cycled}
 use Rattle.dots.proofs.LogicLaws.{combined-lt}
 use Rattle.registers.specs.declared.Mode.{Mode}
@@ -26,7 +24,7 @@ use Rattle.registers.specs.Sound.{soundB}
 use Rattle.registers.specs.Put.{putCursor, putPitch, putDrawing, putOp, putRam, putVideo, putPen, putBuffer, putProgress, putWork}
 use Rattle.registers.specs.State.{State, state}
 use Rattle.registers.specs.Typed.{Typed, Words}
-use Rattle.laws.proofs.SoundLaws.{DrawingFits, BufferFits, Inside, Suits, Sound, sound-parts, sound-whole, fresh-sound, fresh-typed}
+use Rattle.laws.proofs.SoundLaws.{DrawingFits, BufferFits, Inside, Suits, sound-parts, sound-whole, fresh-sound, fresh-typed}
 
 -- the mask with which a character's row started is a `u16` too
 abbrev pub StartFits : Work → Type 0

@@ -1,8 +1,8 @@
 -- The ports, the status and the light pen keep a lawful register set lawful: what is queued is a byte, with a command mark or
 -- without, and a refusal answers the set given.
 use mathlib.Core.Path.{_≡_, refl}
-use mathlib.Core.Bool.{Bool, true, false, cond}
-use Prim.Native.Nat.{ℕ, _+_, _≤_, _<_}
+use mathlib.Core.Bool.{true}
+use Prim.Native.Nat.{ℕ, _+_, _<_}
 use native.Mathlib.Omega.{arith}
 use lib.Dec.{eqb, leb}
 use borrow.Author.Tests.{leb-false}
@@ -14,7 +14,7 @@ use Rattle.registers.specs.Buffer.{pushed, popped}
 use Rattle.ports.specs.declared.Answer.{Answer}
 use Rattle.ports.specs.Port.{queued, turnedBack, queuedOr3, commandIn, commandWritten, parameterIn, parameterWritten, byteIn, byteRead, statusRead, penPosted}
 use Rattle.laws.proofs.BranchLaws.{either, cases}
-use Rattle.laws.proofs.KeptLaws.{Queue, Lawful, buffer-kept, pen-kept}
+use Rattle.laws.proofs.KeptLaws.{Lawful, buffer-kept, pen-kept}
 use Rattle.laws.proofs.KeptBufferLaws.{empty-queue, pushed-queue, popped-queue}
 use Rattle.laws.proofs.KeptProcessorLaws.{reset-kept}
 

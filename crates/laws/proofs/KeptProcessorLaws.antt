@@ -1,19 +1,17 @@
 -- An entry that is taken keeps the registers lawful and the memory's words: each command and each parameter byte puts a value of
 -- its register's width. Nothing is in progress then, so no place can fall out of its figure; a figure starts only with a dot to
 -- draw, a read only with an item to give.
-use mathlib.Core.Path.{_≡_, refl, sym, _∙_}
-use mathlib.Core.Bool.{Bool, true, false, cond, _&&_}
-use mathlib.Core.List.{List, [], _∷_}
-use Prim.Native.Nat.{ℕ, zero, suc, _+_, _*_, _/_, _%_, _^_, _≤_, _<_}
+use mathlib.Core.Path.{_≡_, refl, _∙_}
+use mathlib.Core.Bool.{false, _&&_}
+use mathlib.Core.List.{List}
+use Prim.Native.Nat.{ℕ, zero, suc, _/_, _%_, _^_, _≤_, _<_}
 use native.Mathlib.Omega.{arith}
 use lib.Dec.{eqb, ltb, ltb→lt}
-use lib.ListN.{length, getD, set, replicate, length-set}
+use lib.ListN.{set, length-set}
 use borrow.Author.Tests.{ltb-true, lt-ltb}
 use Rattle.dots.specs.declared.Cursor.{Cursor}
 use Rattle.dots.specs.Step.{Fits, wordMoveOf}
-use Rattle.dots.specs.Cycle.{cycled}
 use Rattle.dots.proofs.Below.{below}
-use Rattle.registers.specs.declared.Mode.{Mode}
 use Rattle.registers.specs.declared.Mode.the-variants.{Write, Read}
 use Rattle.registers.specs.declared.Transfer.{Transfer}
 use Rattle.registers.specs.declared.Command.{Command}
@@ -22,12 +20,11 @@ use Rattle.registers.specs.declared.Work.the-variants.{Idle, Figure, Character,
 use Rattle.registers.specs.declared.Drawing.{Drawing}
 use Rattle.registers.specs.declared.Pen.{Pen}
 use Rattle.registers.specs.declared.Buffer.{Buffer}
-use Rattle.registers.specs.declared.Progress.{Progress}
 use Rattle.registers.specs.declared.Registers.{Registers}
 use Rattle.registers.specs.Fresh.{freshDrawing, emptyBuffer}
 use Rattle.registers.specs.Size.{dotsOf, rowsOf, columnsOf}
 use Rattle.registers.specs.Sound.{allBelow}
-use Rattle.registers.specs.Put.{putCursor, putPitch, putRam, putVideo, putPen, putBuffer, putProgress, putWork, putVsync, putDisplay}
+use Rattle.registers.specs.Put.{putCursor, putProgress}
 use Rattle.registers.specs.State.{State, state}
 use Rattle.registers.proofs.BoolLaws.{and-left, and-right}
 use Rattle.commands.specs.Decode.{within, commandOf}
@@ -37,7 +34,7 @@ use Rattle.processor.specs.Wdat.{halfB, wdatPattern, wdatProgress, setDone, wda
 use Rattle.processor.specs.Entry.{counted, parameterBy, parameterTaken, entryTaken}
 use Rattle.laws.proofs.BranchLaws.{either, cases}
 use Rattle.laws.proofs.SoundLaws.{DrawingFits}
-use Rattle.laws.proofs.KeptLaws.{Queue, Going, Lawful, Whole, idle, cursor-kept, plain-kept, drawing-kept, ram-kept, video-kept, pen-kept, progress-kept, work-kept, cycle-kept}
+use Rattle.laws.proofs.KeptLaws.{Queue, Lawful, Whole, idle, cursor-kept, plain-kept, drawing-kept, ram-kept, video-kept, pen-kept, progress-kept, work-kept, cycle-kept}
 use Rattle.laws.proofs.KeptBufferLaws.{bytes-queue, empty-queue}
 
 -- ---- commands
