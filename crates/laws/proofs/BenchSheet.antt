@@ -21,10 +21,10 @@ use Rattle.registers.specs.Put.{putCursor, putDrawing, putOp, putRam, putProgre
 use Rattle.registers.specs.State.{State, state}
 use Rattle.commands.specs.Decode.{familyOf, commandOf}
 use Rattle.processor.specs.Command.{operationOf, figureBegun, commandTaken}
-use Rattle.processor.specs.Parameter.{cursBy, maskBy, figsBy}
+use Rattle.processor.specs.Parameter.{cursBy, ramBy, pitchBy, maskBy, figsBy}
 use Rattle.processor.specs.Wdat.{setDone, wdatTaken}
-use Rattle.processor.specs.Entry.{parameterTaken, entryTaken}
-use Rattle.figures.specs.Figure.{patternAt, lineDirection, errorAfter, directionAt, runningD, figureMoved, figureUnit}
+use Rattle.processor.specs.Entry.{nextOf, parameterTaken, entryTaken}
+use Rattle.figures.specs.Figure.{patternOf, patternAt, lineDirection, errorAfter, directionAt, runningD, figureMoved, figureUnit}
 use Rattle.units.specs.Unit.{fetched, unitDone}
 use Rattle.units.specs.Run.{reasonOf, runFrom, lengthB, runDone}
 use Rattle.ports.specs.declared.Answer.{Answer}
@@ -142,5 +142,5 @@ AllHold [] = Unit {0}
 AllHold (c ∷ l) = (c .gives ≡ c .says) × AllHold l
 
 pub bench-holds : AllHold bench
-unfolding bench oneBit combined bit ofBits freshSet dotsOf allBelow soundB pushed oldest popped familyOf commandOf operationOf figureBegun commandTaken cursBy maskBy figsBy setDone wdatTaken parameterTaken entryTaken patternAt lineDirection errorAfter directionAt runningD figureMoved figureUnit fetched unitDone reasonOf runFrom lengthB runDone queuedOr3 commandWritten parameterWritten byteRead
+unfolding bench oneBit combined bit ofBits freshSet dotsOf allBelow soundB pushed oldest popped familyOf commandOf operationOf figureBegun commandTaken cursBy ramBy pitchBy maskBy figsBy setDone wdatTaken nextOf parameterTaken entryTaken patternOf patternAt lineDirection errorAfter directionAt runningD figureMoved figureUnit fetched unitDone reasonOf runFrom lengthB runDone queuedOr3 commandWritten parameterWritten byteRead
 bench-holds = (refl, (refl, (refl, (refl, (refl, (refl, (refl, (refl, (refl, (refl, (refl, (refl, (refl, (refl, (refl, tt)))))))))))))))
