@@ -1,6 +1,6 @@
 -- A run does what it says. It leaves what as many steps of the definition make as it counts, never more than its budget; it stops
 -- with its budget spent, or where no further unit applies; and two runs are one run of the sum. By induction on the budget.
-use mathlib.Core.Path.{_≡_, refl, sym, ap, ap₂, _∙_}
+use mathlib.Core.Path.{_≡_, refl, sym, ap, ap₂, subst, _∙_}
 use mathlib.Core.Bool.{Bool, true, false, cond}
 use Prim.Native.Nat.{ℕ, zero, suc, _+_, _≤_, _<_}
 use native.Mathlib.Omega.{arith}
@@ -104,29 +104,34 @@ run-from-counts budget s =
     let e : t .done ≡ runFrom budget 0 s .ran .count = omega (arith, t .count) in
     t .left ∙ ap (λ (n : ℕ). unitsDone n s) e
 
--- each unit done was one that applied
-pub run-from-busy : (budget : ℕ) (s : State) (i : ℕ) → i < runFrom budget 0 s .ran .count → reasonOf (unitsDone i s .regs) ≡ 0
-run-from-busy budget s i h = let t = told budget 0 s in t .busy i (omega (arith, t .count))
-
--- "it says which, the first in this order": the budget is spent ..
-pub run-from-spent : (budget : ℕ) (s : State) → runFrom budget 0 s .ran .count ≡ budget → runFrom budget 0 s .ran .why ≡ 1
-run-from-spent budget s e = let t = told budget 0 s in t .spent (omega (arith, t .count))
-
--- .. or the registers left say why no unit applies
+-- the registers left say why no further unit applies: 2 or 3
 pub record Stopped (o : Outcome) : Type 0 where
   pub why : o .ran .why ≡ reasonOf (o .ran .regs)
   pub two : 2 ≤ o .ran .why
   pub three : o .ran .why ≤ 3
 
-pub run-from-stopped : (budget : ℕ) (s : State) → runFrom budget 0 s .ran .count < budget → Stopped (runFrom budget 0 s)
-run-from-stopped budget s h =
+-- "it says which, the first in this order": each unit done was one that applied; then the budget was spent, or no further unit applied
+pub record Reasoned (budget : ℕ) (s : State) (o : Outcome) : Type 0 where
+  pub before : (i : ℕ) → i < o .ran .count → reasonOf (unitsDone i s .regs) ≡ 0
+  pub spent : o .ran .count ≡ budget → o .ran .why ≡ 1
+  pub short : o .ran .count < budget → Stopped o
+
+pub run-from-reason : (budget : ℕ) (s : State) → Reasoned budget s (runFrom budget 0 s)
+run-from-reason budget s =
     let t = told budget 0 s in
-    let q = t .short (omega (arith, t .count)) in
-    let k = reason-kinds (runFrom budget 0 s .ran .regs) in
-    record { why = q .0; two = rw (q .0) (two-of (reasonOf (runFrom budget 0 s .ran .regs)) (q .1) k); three = rw (q .0) (k .few) }
+    record {
+      before = λ i h. t .busy i (omega (arith, t .count));
+      spent = λ e. t .spent (omega (arith, t .count));
+      short = λ h. stops (runFrom budget 0 s) (t .short (omega (arith, t .count)));
+    }
   where
     two-of : (y : ℕ) → (y ≡ 0 → ⊥) → Reason y → 2 ≤ y
     two-of y n k = omega (arith, k .not-1)
+
+    stops : (o : Outcome) → (o .ran .why ≡ reasonOf (o .ran .regs)) × (reasonOf (o .ran .regs) ≡ 0 → ⊥) → Stopped o
+    stops o q =
+        let k = reason-kinds (o .ran .regs) in
+        record { why = q .0; two = rw (q .0) (two-of (reasonOf (o .ran .regs)) (q .1) k); three = rw (q .0) (k .few) }
 
 -- where no unit applies, a run does nothing and says why: "nothing is in progress or, in write mode, queued, or a read awaits room"
 pub run-from-idle : (budget k : ℕ) (s : State) → 0 < budget → (reasonOf (s .regs) ≡ 0 → ⊥) → runFrom budget k s ≡ stopped s k (reasonOf (s .regs))
@@ -155,6 +160,13 @@ units-idle : (k : ℕ) (s : State) → (reasonOf (s .regs) ≡ 0 → ⊥) → un
 unfolding unitsDone
 units-idle zero s n = refl
 units-idle (suc k) s n = ap (unitsDone k) (unit-idle s n) ∙ units-idle k s n
+
+pub units-add : (a b : ℕ) (s : State) → unitsDone (a + b) s ≡ unitsDone b (unitsDone a s)
+unfolding unitsDone
+units-add zero b s = let e : 0 + b ≡ b = omega arith in ap (λ (n : ℕ). unitsDone n s) e
+units-add (suc a) b s =
+    let e : suc a + b ≡ suc (a + b) = omega arith in
+    ap (λ (n : ℕ). unitsDone n s) e ∙ units-add a b (unitDone s)
 
 pub run-from-all : (budget k : ℕ) (s : State) → leftBy (runFrom budget k s) ≡ unitsDone budget s
 unfolding runFrom unitsDone
@@ -224,6 +236,13 @@ module _ (budget : ℕ) (s : State) where
   pub run-wrong-length : soundB (s .regs) ≡ true → lengthB (length (s .mem)) ≡ false → runDone budget s ≡ refused 2 s
   unfolding runDone
   run-wrong-length e h = rw (e, h)
+
+  pub run-reason : soundB (s .regs) ≡ true → lengthB (length (s .mem)) ≡ true → Reasoned budget s (runDone budget s)
+  run-reason e h = subst (Reasoned budget s) (sym (run-granted e h)) (run-from-reason budget s)
+
+  pub run-idle : soundB (s .regs) ≡ true → lengthB (length (s .mem)) ≡ true → 0 < budget → (reasonOf (s .regs) ≡ 0 → ⊥)
+      → runDone budget s ≡ stopped s 0 (reasonOf (s .regs))
+  run-idle e h some n = run-granted e h ∙ run-from-idle budget 0 s some n
 
   run-by-counts : (t u : Bool) → leftBy (runBy t u budget s) ≡ unitsDone (runBy t u budget s .ran .count) s
   unfolding unitsDone
