@@ -30,17 +30,46 @@ pub record Reason (y : ℕ) : Type 0 where
   pub not-1 : y ≡ 1 → ⊥
 
 reason-by : (w : Work) (m : Mode) (b : Buffer) → Reason (reasonBy w m b)
-reason-by Idle Write b =
-    either Reason (eqb (b .count) 0) (record { few = omega arith; not-1 = omega arith }) (record { few = omega arith; not-1 = omega arith })
-reason-by Idle Read b = record { few = omega arith; not-1 = omega arith }
-reason-by (Figure k d) m b = record { few = omega arith; not-1 = omega arith }
-reason-by (Character row column start) m b = record { few = omega arith; not-1 = omega arith }
-reason-by (Reading i t) m b =
-    either Reason (roomB t b) (record { few = omega arith; not-1 = omega arith }) (record { few = omega arith; not-1 = omega arith })
+reason-by Idle Write b = either Reason (eqb (b .count) 0) (omega arith) (omega arith)
+reason-by Idle Read b = omega arith
+reason-by (Figure k d) m b = omega arith
+reason-by (Character row column start) m b = omega arith
+reason-by (Reading i t) m b = either Reason (roomB t b) (omega arith) (omega arith)
 
 pub reason-kinds : (r : Registers) → Reason (reasonOf r)
 unfolding reasonOf
 reason-kinds r = reason-by (r .work) (r .mode) (r .buffer)
+
+-- ---- units
+
+pub units-add : (a b : ℕ) (s : State) → unitsDone (a + b) s ≡ unitsDone b (unitsDone a s)
+unfolding unitsDone
+units-add zero b s = let e : 0 + b ≡ b = omega arith in ap (λ (n : ℕ). unitsDone n s) e
+units-add (suc a) b s =
+    let e : suc a + b ≡ suc (a + b) = omega arith in
+    ap (λ (n : ℕ). unitsDone n s) e ∙ units-add a b (unitDone s)
+
+-- where none applies, a unit changes nothing
+fetch-idle : (m : Mode) (s : State) → (waiting m (s .regs .buffer) ≡ 0 → ⊥) → fetchBy m (s .regs .buffer .count) s ≡ s
+fetch-idle Write s n =
+    cases (λ (x : State). x ≡ s) (eqb (s .regs .buffer .count) 0) (λ t. refl) (λ t. absurd (n (rw t)))
+fetch-idle Read s n = refl
+
+idle-by : (w : Work) (s : State) → (reasonBy w (s .regs .mode) (s .regs .buffer) ≡ 0 → ⊥) → unitBy w s ≡ s
+unfolding readUnit
+idle-by Idle s n = fetch-idle (s .regs .mode) s n
+idle-by (Figure k d) s n = absurd (n refl)
+idle-by (Character row column start) s n = absurd (n refl)
+idle-by (Reading i t) s n = cases (λ (x : State). x ≡ s) (roomB t (s .regs .buffer)) (λ u. absurd (n (rw u))) (λ u. refl)
+
+pub unit-idle : (s : State) → (reasonOf (s .regs) ≡ 0 → ⊥) → unitDone s ≡ s
+unfolding reasonOf unitDone
+unit-idle s n = idle-by (s .regs .work) s n
+
+units-idle : (k : ℕ) (s : State) → (reasonOf (s .regs) ≡ 0 → ⊥) → unitsDone k s ≡ s
+unfolding unitsDone
+units-idle zero s n = refl
+units-idle (suc k) s n = ap (unitsDone k) (unit-idle s n) ∙ units-idle k s n
 
 -- ---- one run
 
@@ -139,35 +168,7 @@ unfolding runFrom
 run-from-idle zero k s h n = absurd (omega arith)
 run-from-idle (suc f) k s h n = rw (ne-eqb (reasonOf (s .regs)) 0 n)
 
--- .. and a unit changes nothing, so a run leaves what all of its budget's units make
-fetch-idle : (m : Mode) (s : State) → (waiting m (s .regs .buffer) ≡ 0 → ⊥) → fetchBy m (s .regs .buffer .count) s ≡ s
-fetch-idle Write s n =
-    cases (λ (x : State). x ≡ s) (eqb (s .regs .buffer .count) 0) (λ t. refl) (λ t. absurd (n (rw t)))
-fetch-idle Read s n = refl
-
-idle-by : (w : Work) (s : State) → (reasonBy w (s .regs .mode) (s .regs .buffer) ≡ 0 → ⊥) → unitBy w s ≡ s
-unfolding readUnit
-idle-by Idle s n = fetch-idle (s .regs .mode) s n
-idle-by (Figure k d) s n = absurd (n refl)
-idle-by (Character row column start) s n = absurd (n refl)
-idle-by (Reading i t) s n = cases (λ (x : State). x ≡ s) (roomB t (s .regs .buffer)) (λ u. absurd (n (rw u))) (λ u. refl)
-
-pub unit-idle : (s : State) → (reasonOf (s .regs) ≡ 0 → ⊥) → unitDone s ≡ s
-unfolding reasonOf unitDone
-unit-idle s n = idle-by (s .regs .work) s n
-
-units-idle : (k : ℕ) (s : State) → (reasonOf (s .regs) ≡ 0 → ⊥) → unitsDone k s ≡ s
-unfolding unitsDone
-units-idle zero s n = refl
-units-idle (suc k) s n = ap (unitsDone k) (unit-idle s n) ∙ units-idle k s n
-
-pub units-add : (a b : ℕ) (s : State) → unitsDone (a + b) s ≡ unitsDone b (unitsDone a s)
-unfolding unitsDone
-units-add zero b s = let e : 0 + b ≡ b = omega arith in ap (λ (n : ℕ). unitsDone n s) e
-units-add (suc a) b s =
-    let e : suc a + b ≡ suc (a + b) = omega arith in
-    ap (λ (n : ℕ). unitsDone n s) e ∙ units-add a b (unitDone s)
-
+-- .. so that it leaves what all the units of its budget make
 pub run-from-all : (budget k : ℕ) (s : State) → leftBy (runFrom budget k s) ≡ unitsDone budget s
 unfolding runFrom unitsDone
 run-from-all zero k s = refl
@@ -215,7 +216,7 @@ went-on (suc a) b k s y =
         ih h ∙ ap (λ (n : ℕ). runFrom b n (leftBy (runFrom a (k + 1) (unitDone s)))) e
     go false ih h = absurd (reason-kinds (s .regs) .not-1 h)
 
--- a run whose budget was spent, and one of b units more, are one run of the sum
+-- a run whose budget a was spent, and one of b units more, are one run of the sum
 pub run-from-joined : (a b : ℕ) (s : State) → runFrom a 0 s .ran .why ≡ 1 → runFrom (a + b) 0 s ≡ further a (runFrom b 0 (leftBy (runFrom a 0 s)))
 run-from-joined a b s y =
     let t = leftBy (runFrom a 0 s) in
