@@ -1,7 +1,7 @@
 -- 01, Drawing sheets and Numbers of refusal: a block of 512 bytes, and 14 and 15 "block by block".
 use Prim.Native.Nat.{ℕ, zero, suc, _+_, _-_, _*_, _%_}
 use mathlib.Core.List.{List}
-use mathlib.Core.Bool.{Bool, true, false, cond, _&&_}
+use mathlib.Core.Bool.{Bool, true, cond, _&&_}
 use lib.Dec.{eqb, leb}
 use Rattle.records.specs.Raw.{byteAt, wordAt}
 use Rattle.blocks.specs.declared.Answer.{Answer}

@@ -1,11 +1,10 @@
 -- A sheet is accepted where 01's conditions hold, and only there: each block has its check and its heading, each record of a block's count stands for a
 -- figure. True because the first refusal over the blocks, and over the slots, is none just where no place has one.
-use mathlib.Core.Path.{_≡_, refl, sym, ap, subst, _∙_}
+use mathlib.Core.Path.{_≡_, refl}
 use mathlib.Core.Bool.{Bool, true, false, cond, _&&_}
 use mathlib.Core.List.{List, _++_}
-use Prim.Native.Nat.{ℕ, zero, suc, _+_, _-_, _*_, _/_, _%_, _<_, _≤_}
+use Prim.Native.Nat.{ℕ, _+_, _*_, _/_, _%_, _<_, _≤_}
 use native.Mathlib.Omega.{arith}
-use lib.Dec.{eqb, ltb, leb}
 use lib.ListN.{length, drop}
 use borrow.Author.Tests.{lt-ltb, le-ltb, ltb-true, leb-true}
 use Rattle.records.specs.declared.Room.{Room}
@@ -13,11 +12,11 @@ use Rattle.records.specs.Raw.{recordPlace}
 use Rattle.records.specs.Decode.{decodedAt}
 use Rattle.records.specs.Refused.{numberOf}
 use Rattle.blocks.specs.declared.Answer.{Answer}
-use Rattle.blocks.specs.Answer.{answer, orElse, firstFrom}
+use Rattle.blocks.specs.Answer.{answer}
 use Rattle.blocks.specs.Block.{checkB, numberB, countOf, countB, lastB, spareB, unusedB, headB, blockRefusal, blockAnswer, blocksChecked}
-use Rattle.blocks.proofs.AnswerLaws.{or-next, first-none, first-all}
+use Rattle.blocks.proofs.AnswerLaws.{first-none, first-all}
 use Rattle.sheets.specs.Slots.{usedB, placeOf, slotRefusal, slotAnswer, recordsChecked, translation}
-use Rattle.sheets.specs.Sheet.{planeB, tableB, lengthB, frameRefusal, roomOf, figuresOf, ended, answerOf, outcome, translateDef}
+use Rattle.sheets.specs.Sheet.{planeB, tableB, lengthB, frameRefusal, roomOf, figuresOf, answerOf, outcome, translateDef}
 use Rattle.sheets.proofs.SheetLaws.{and-both, three, Translated, translated-means}
 
 -- 01's conditions, in the order of its table

@@ -19,7 +19,7 @@ use Rattle.blocks.specs.declared.Answer.{Answer}
 use Rattle.blocks.specs.Answer.{answer, orElse, firstFrom}
 use Rattle.blocks.proofs.AnswerLaws.{or-first, first-start, first-stop, first-go-on, first-end}
 use Rattle.entries.specs.Entries.{placed, plain, figureSize, sizeOf, entriesOf}
-use Rattle.entries.proofs.PutLaws.{entries-size, placed-append, placed-length}
+use Rattle.entries.proofs.PutLaws.{entries-size, placed-append}
 use Rattle.sheets.specs.declared.Measured.{Measured}
 use Rattle.sheets.specs.Slots.{placeOf, usedB, slotRefusal, slotAnswer, recordsChecked, figuresIn, slotFigures, figuresFrom, figures, translated, translation, sized, measured}
 
