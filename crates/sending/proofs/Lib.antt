@@ -1,3 +1,4 @@
 pub mod RunLaws
 pub mod SoundLaws
 pub mod SendLaws
+pub mod EntryLaws
