@@ -2,3 +2,4 @@ pub mod RunLaws
 pub mod SoundLaws
 pub mod SendLaws
 pub mod EntryLaws
+pub mod GroupLaws
