@@ -3,3 +3,4 @@ pub mod SoundLaws
 pub mod SendLaws
 pub mod EntryLaws
 pub mod GroupLaws
+pub mod DrawLaws
