@@ -4,3 +4,4 @@ pub mod SendLaws
 pub mod EntryLaws
 pub mod GroupLaws
 pub mod DrawLaws
+pub mod CharacterLaws
