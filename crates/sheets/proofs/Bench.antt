@@ -12,11 +12,11 @@ use Rattle.sheets.specs.Slots.{slotRefusal, recordsFrom, recordsChecked,
 use Rattle.sheets.specs.Sheet.{frameRefusal, answerOf, Outcome, outcome, translateDef}
 
 -- "Block 0 holds 00 00 01 01, then 01 03 11 00 02 00 00 00 00 00, zeros, and 49 20 at its end"
-sheet : List ℕ
+pub sheet : List ℕ
 sheet = 0x00 ∷ 0x00 ∷ 0x01 ∷ 0x01 ∷ 0x01 ∷ 0x03 ∷ 0x11 ∷ 0x00 ∷ 0x02 ∷ 0x00 ∷ 0x00 ∷ 0x00 ∷ 0x00 ∷ 0x00 ∷ replicate 496 0 ++ 0x49 ∷ 0x20 ∷ []
 
 -- "C 47, P 28, C 23, C 49, P 51, P 00, P 10, C 78, P FF, P FF, C 4C, P 02, C 6C"
-listing : List ℕ
+pub listing : List ℕ
 listing = 0x147 ∷ 0x28 ∷ 0x123 ∷ 0x149 ∷ 0x51 ∷ 0x00 ∷ 0x10 ∷ 0x178 ∷ 0xFF ∷ 0xFF ∷ 0x14C ∷ 0x02 ∷ 0x16C ∷ []
 
 pub bench : _≡_ {A = List Outcome}
