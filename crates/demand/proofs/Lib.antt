@@ -1,2 +1,4 @@
 pub mod HeadLaws
 pub mod DrawsLaws
+pub mod SlopeLaws
+pub mod LineLaws
