@@ -12,7 +12,7 @@ use Rattle.dots.specs.Dot.{cursorAt}
 use Rattle.dots.proofs.DotLaws.{address}
 use Rattle.geometry.specs.Plane.{InPlane, Picture, Shape, solid, dotOn}
 use Rattle.geometry.proofs.WalkLaws.{Sized, walk}
-use Rattle.geometry.proofs.CycleLaws.{cycles, Drawn}
+use Rattle.geometry.proofs.CycleLaws.{cycles, Drawn, drawn-as}
 use Rattle.geometry.proofs.FigureLaws.{dot-drawn}
 use Rattle.records.specs.declared.Point.{Point}
 use Rattle.entries.specs.Entries.{headEntries, dotEntries}
@@ -45,6 +45,11 @@ pub record Draws (p h : ℕ) (op : Operation) (on : Shape) (ink : Picture) (s : 
 
 pub leads-count : {s s′ : State} {l : List ℕ} {m n : ℕ} → Leads s l m s′ → m ≡ n → Leads s l n s′
 leads-count {s} {s′} {l} v e = subst (λ (k : ℕ). Leads s l k s′) e v
+
+-- the same by another test of the shape, or another count
+pub draws-as : {p h : ℕ} {op : Operation} {on on′ : Shape} {ink : Picture} {s : State} {l : List ℕ} {m n : ℕ} → ((x y : ℕ) → on x y ≡ on′ x y) → m ≡ n
+    → Draws p h op on ink s l m → Draws p h op on′ ink s l n
+draws-as same e d = record { after = d .after; leads = leads-count (d .leads) e; waits = d .waits; pitch = d .pitch; drawn = drawn-as same (d .drawn) }
 
 module _ (p h : ℕ) (sized : Sized p h) (s : State) (held : Held p h s) (op : Operation) (a : Point) (inside : InPlane p h (a .x) (a .y)) where
   -- the registers before FIGS

@@ -2,3 +2,4 @@ pub mod HeadLaws
 pub mod DrawsLaws
 pub mod SlopeLaws
 pub mod LineLaws
+pub mod RectangleLaws
