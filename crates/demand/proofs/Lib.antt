@@ -3,3 +3,4 @@ pub mod DrawsLaws
 pub mod SlopeLaws
 pub mod LineLaws
 pub mod RectangleLaws
+pub mod GlyphLaws
