@@ -4,3 +4,5 @@ pub mod SlopeLaws
 pub mod LineLaws
 pub mod RectangleLaws
 pub mod GlyphLaws
+pub mod InsideLaws
+pub mod SheetLaws

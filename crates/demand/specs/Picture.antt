@@ -22,14 +22,12 @@ unfoldable pub figuresMade : List ℕ → List Record → Picture → Picture
 figuresMade table [] pic = pic
 figuresMade table (r ∷ l) pic = figuresMade table l (figureMade table (r .op) (r .figure) pic)
 
--- a border w + 1 dots wide and h + 1 high: all round, or there alone if it is one dot wide or high
-abbrev pub borderDots : ℕ → ℕ → ℕ
-borderDots w h = cond (eqb w 0 || eqb h 0) (max w h + 1) (2 * (w + h))
-
+-- how many dots a figure has; a border goes all round, or there alone where it is "one dot wide or high"
 abbrev pub figureDots : Figure → ℕ
 figureDots (Dot a) = 1
 figureDots (Line a b) = max (distance (a .x) (b .x)) (distance (a .y) (b .y)) + 1
-figureDots (Rectangle a b) = borderDots (distance (a .x) (b .x)) (distance (a .y) (b .y))
+figureDots (Rectangle a b) =
+    cond (eqb (a .x) (b .x) || eqb (a .y) (b .y)) (max (distance (a .x) (b .x)) (distance (a .y) (b .y)) + 1) (2 * (distance (a .x) (b .x) + distance (a .y) (b .y)))
 figureDots (Glyph a n g) = 8 * g * (8 * g)
 
 unfoldable pub figuresDots : List Record → ℕ
