@@ -6,3 +6,4 @@ pub mod RectangleLaws
 pub mod GlyphLaws
 pub mod InsideLaws
 pub mod SheetLaws
+pub mod Whole

@@ -158,7 +158,7 @@ module _ (r : Registers) (m : List ℕ) (e : ℕ) (v : Waiting r) (small : e < 5
     }
 
 -- ---- entries that start nothing: only the registers change, whatever the memory holds
-waiting-reason : (r : Registers) → Waiting r → reasonOf r ≡ 2
+pub waiting-reason : (r : Registers) → Waiting r → reasonOf r ≡ 2
 unfolding reasonOf
 waiting-reason r v = rw (v .idle, v .mode, v .empty)
 
