@@ -1,6 +1,6 @@
 -- 01, Commands: what a command byte does when it is taken from the buffer.
 use Prim.Native.Nat.{ℕ, _/_, _%_}
-use mathlib.Core.Bool.{Bool, true, false, cond}
+use mathlib.Core.Bool.{Bool, true, false, cond, _&&_}
 use mathlib.Core.List.{List, [], _∷_, _++_}
 use lib.Dec.{eqb, ltb}
 use lib.ListN.{replicate}
@@ -26,13 +26,13 @@ abbrev pub firstOf : ℕ → ℕ
 firstOf b = cond (within 0x70 0x7F b) (b % 16) 0
 
 -- the command in progress is this one, with no parameter taken
-abbrev pub begun : ℕ → Progress
-begun b = record { command = commandOf b; next = firstOf b; low = 0 }
+abbrev pub begun : Command → ℕ → Progress
+begun c b = record { command = c; next = firstOf b; low = 0 }
 
 -- "buffer emptied, write mode, figure or read ended where it stands, display off; other registers kept; parameters that follow it load the eight sync bytes"
 unfoldable pub resetDone : Registers → Registers
 resetDone r =
-    putProgress (putWork (putBuffer (putMode (putVideo r (putDisplay (r .video) false)) mode.Write) emptyBuffer) Idle) (record { command = Reset; next = 0; low = 0 })
+    putProgress (putWork (putBuffer (putMode (putVideo r (putDisplay (r .video) false)) mode.Write) emptyBuffer) Idle) (begun Reset 0)
 
 -- "discard the entries behind them and turn to read mode"
 abbrev pub turned : Registers → Buffer → Registers
@@ -54,8 +54,8 @@ penBytes p =
       count = 3;
     }
 
-abbrev pub penRead : Pen → Pen
-penRead p = record { address = p .address; set = false }
+abbrev pub penGiven : Registers → Registers
+penGiven r = turned (putPen r (record { address = r .pen .address; set = false })) (penBytes (r .pen))
 
 -- "0 REPLACE .., 1 COMPLEMENT .., 2 RESET .., 3 SET": the two low bits of WDAT's byte
 unfoldable pub operationOf : ℕ → Operation
@@ -70,7 +70,8 @@ figureBegun r = cond (ltb 0 (dotsOf (r .drawing))) (putWork r (Figure 0 (r .draw
 -- GCHRD likewise, from the place where EAD and mask stand
 unfoldable pub characterBegun : Registers → Registers
 characterBegun r =
-    cond (ltb 0 (rowsOf (r .drawing) (r .video .zoom))) (cond (ltb 0 (columnsOf (r .drawing) (r .video .zoom))) (putWork r (Character 0 0 (r .cursor))) r) r
+    cond (ltb 0 (rowsOf (r .drawing) (r .video .zoom)) && ltb 0 (columnsOf (r .drawing) (r .video .zoom)))
+    (putWork r (Character 0 0 (r .cursor))) r
 
 -- RDAT: "a read of no items once the mode is turned, changes nothing more"
 unfoldable pub readBegun : Transfer → Registers → Registers
@@ -94,7 +95,7 @@ commandBy Figs b r = putDrawing r (freshDrawing (r .drawing))
 commandBy Figd b r = figureBegun r
 commandBy Gchrd b r = characterBegun r
 commandBy Curd b r = turned r (cursorBytes (r .cursor))
-commandBy Lprd b r = putPen (turned r (penBytes (r .pen))) (penRead (r .pen))
+commandBy Lprd b r = penGiven r
 -- "WDAT's command byte sets the operation for later figures."
 commandBy (Wdat t) b r = putOp r (operationOf b)
 commandBy (Rdat t) b r = readBegun t r
@@ -102,4 +103,4 @@ commandBy (Rdat t) b r = readBegun t r
 commandBy Unknown b r = r
 
 unfoldable pub commandTaken : ℕ → Registers → Registers
-commandTaken b r = commandBy (commandOf b) b (putProgress r (begun b))
+commandTaken b r = commandBy (commandOf b) b (putProgress r (begun (commandOf b) b))

@@ -1,15 +1,17 @@
--- The test of the first n entries, one entry on: what is left to test decides.
+-- The buffer: a pop moves each entry one place on; and the test of the first n entries, one entry on: what is left decides.
 use mathlib.Core.Path.{_≡_, refl, sym, ap, _∙_}
 use mathlib.Core.Bool.{Bool, true, false, _&&_}
-use mathlib.Core.List.{List, [], _∷_}
+use mathlib.Core.List.{List, [], _∷_, _++_}
 use Prim.Native.Nat.{ℕ, zero, suc, _+_, _-_, _≤_, _<_}
 use native.Mathlib.Omega.{arith}
 use native.Mathlib.Numerals.{add-one}
 use lib.Dec.{ltb, leb}
 use lib.ListN.{length, getD, take, drop, drop-of-length-le}
-use lib.Seq.{drop-cons, take-nil}
-use borrow.Author.Tests.{ltb-true, ltb-false, leb-true, leb-false, lt-ltb, le-ltb}
+use lib.Seq.{drop-cons, drop-length, take-nil}
+use borrow.Author.Tests.{ltb-true, ltb-false, leb-true, leb-false, lt-ltb, le-ltb, lt-leb}
 use Rattle.registers.proofs.BoolLaws.{and-left, and-right, false-true}
+use Rattle.registers.specs.declared.Buffer.{Buffer}
+use Rattle.registers.specs.Buffer.{popped}
 use Rattle.registers.specs.Sound.{allBelow}
 
 module _ (b n : ℕ) (e : List ℕ) where
@@ -47,3 +49,36 @@ module _ (b n : ℕ) (e : List ℕ) where
           let m : n - i ≡ 0 = omega arith in
           let m′ : n - (i + 1) ≡ 0 = omega arith in
           rw (m, m′)
+
+-- fifteen places, each given the entry behind it
+abbrev pub shifted : List ℕ → List ℕ
+shifted e =
+    getD e 1 0 ∷ getD e 2 0 ∷ getD e 3 0 ∷ getD e 4 0 ∷ getD e 5 0 ∷ getD e 6 0 ∷ getD e 7 0 ∷ getD e 8 0 ∷ getD e 9 0
+    ∷ getD e 10 0 ∷ getD e 11 0 ∷ getD e 12 0 ∷ getD e 13 0 ∷ getD e 14 0 ∷ getD e 15 0 ∷ 0 ∷ []
+
+shifted-is : (l : List ℕ) → length l ≡ 16 → shifted l ≡ drop 1 l ++ (0 ∷ [])
+shifted-is l n =
+    let z : drop 16 l ≡ [] = rw (← n, drop-length) in
+    rw (
+      drop-cons l 1 0 (omega arith),
+      drop-cons l 2 0 (omega arith),
+      drop-cons l 3 0 (omega arith),
+      drop-cons l 4 0 (omega arith),
+      drop-cons l 5 0 (omega arith),
+      drop-cons l 6 0 (omega arith),
+      drop-cons l 7 0 (omega arith),
+      drop-cons l 8 0 (omega arith),
+      drop-cons l 9 0 (omega arith),
+      drop-cons l 10 0 (omega arith),
+      drop-cons l 11 0 (omega arith),
+      drop-cons l 12 0 (omega arith),
+      drop-cons l 13 0 (omega arith),
+      drop-cons l 14 0 (omega arith),
+      drop-cons l 15 0 (omega arith),
+      z,
+    )
+
+pub popped-more : (b : Buffer) → 1 < b .count → length (b .entries) ≡ 16
+    → record { entries = shifted (b .entries); count = b .count - 1 } ≡ popped b
+unfolding popped
+popped-more b h n = rw (lt-leb (b .count) 1 h, shifted-is (b .entries) n)

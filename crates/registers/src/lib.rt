@@ -4,6 +4,7 @@ use dots::Operation;
 ghost use mathlib.Core.Path.{_≡_};
 ghost use lib.ListN.{take};
 ghost use Rattle.registers.specs.Fresh.{freshSet};
+ghost use Rattle.registers.specs.Buffer.{pushed, oldest, popped};
 ghost use Rattle.registers.specs.Size.{factorOf, dotsOf, rowsOf, columnsOf};
 ghost use Rattle.registers.specs.Sound.{
   allBelow,
@@ -298,6 +299,61 @@ pub fn is_write(m: Mode) -> bool
     match m {
         Mode::Write => true,
         Mode::Read => false,
+    }
+}
+
+// The buffer with an entry more; one of sixteen takes none.
+pub fn push(b: Buffer, e: u16) -> Buffer
+    ensures { λ n. ⌜ n ≡ pushed b e ⌝ }
+{
+    let at = b.count as usize;
+    if at < 16 {
+        let mut n = b;
+        n.entries[at] = e;
+        n.count = b.count + 1;
+        return n;
+    }
+    b
+}
+
+// The oldest entry.
+pub fn oldest_of(b: Buffer) -> u16
+    ensures { λ e. ⌜ e ≡ oldest b ⌝ }
+{
+    b.entries[0]
+}
+
+// The buffer without its oldest entry.
+pub fn pop(b: Buffer) -> Buffer
+    ensures { λ n. ⌜ n ≡ popped b ⌝ }
+{
+    if b.count <= 1 {
+        return Buffer {
+            entries: [0; 16],
+            count: 0,
+        };
+    }
+    let e = b.entries;
+    Buffer {
+        entries: [
+            e[1],
+            e[2],
+            e[3],
+            e[4],
+            e[5],
+            e[6],
+            e[7],
+            e[8],
+            e[9],
+            e[10],
+            e[11],
+            e[12],
+            e[13],
+            e[14],
+            e[15],
+            0,
+        ],
+        count: b.count - 1,
     }
 }
 

@@ -1,0 +1,178 @@
+-- What every entry of the controller keeps: a register set that is sound and has what its types say (`Lawful`), over a memory of
+-- 16-bit words of one length (`Whole`). A change of one register keeps it if the new value has its part.
+use mathlib.Core.Path.{_≡_, refl, _∙_}
+use mathlib.Core.Bool.{true}
+use mathlib.Core.List.{List, [], _∷_}
+use Prim.Native.Nat.{ℕ, zero, suc, _≤_, _<_}
+use lib.ListN.{length, getD, set, length-set}
+use Rattle.dots.specs.declared.Cursor.{Cursor}
+use Rattle.dots.specs.declared.Operation.{Operation}
+use Rattle.dots.specs.Step.{Fits}
+use Rattle.dots.specs.Cycle.{metBy, cycled}
+use Rattle.dots.proofs.LogicLaws.{combined-lt}
+use Rattle.registers.specs.declared.Mode.{Mode}
+use Rattle.registers.specs.declared.Work.{Work}
+use Rattle.registers.specs.declared.Work.the-variants.{Idle, Figure, Character, Reading}
+use Rattle.registers.specs.declared.Drawing.{Drawing}
+use Rattle.registers.specs.declared.Video.{Video}
+use Rattle.registers.specs.declared.Pen.{Pen}
+use Rattle.registers.specs.declared.Buffer.{Buffer}
+use Rattle.registers.specs.declared.Progress.{Progress}
+use Rattle.registers.specs.declared.Registers.{Registers}
+use Rattle.registers.specs.Fresh.{freshSet}
+use Rattle.registers.specs.Sound.{soundB}
+use Rattle.registers.specs.Put.{putCursor, putPitch, putDrawing, putOp, putRam, putVideo, putPen, putBuffer, putProgress, putWork}
+use Rattle.registers.specs.State.{State, state}
+use Rattle.registers.specs.Typed.{Typed, Words}
+use Rattle.laws.proofs.SoundLaws.{DrawingFits, BufferFits, Inside, Suits, sound-parts, sound-whole, fresh-sound, fresh-typed}
+
+-- the mask with which a character's row started is a `u16` too
+abbrev pub StartFits : Work → Type 0
+StartFits Idle = Unit {0}
+StartFits (Figure k d) = Unit {0}
+StartFits (Character row column start) = start .mask < 65536
+StartFits (Reading item t) = Unit {0}
+
+pub record Queue (m : Mode) (b : Buffer) : Type 0 where
+  pub fits : BufferFits m b
+  pub long : length (b .entries) ≡ 16
+
+pub record Going (f : Drawing) (zoom : ℕ) (m : Mode) (w : Work) : Type 0 where
+  pub place : Inside f zoom w
+  pub mode : Suits m w
+  pub start : StartFits w
+
+pub record Lawful (r : Registers) : Type 0 where
+  pub cursor : Fits (r .cursor)
+  pub drawing : DrawingFits (r .drawing)
+  pub ram : length (r .ram) ≡ 16
+  pub pen : r .pen .address < 262144
+  pub buffer : Queue (r .mode) (r .buffer)
+  pub progress : r .progress .next ≤ 16
+  pub work : Going (r .drawing) (r .video .zoom) (r .mode) (r .work)
+
+pub record Whole (n : ℕ) (s : State) : Type 0 where
+  pub regs : Lawful (s .regs)
+  pub words : Words (s .mem)
+  pub long : length (s .mem) ≡ n
+
+-- nothing in progress is inside any figure, and suits any mode
+pub idle : (f : Drawing) (zoom : ℕ) (m : Mode) {w : Work} → w ≡ Idle → Going f zoom m w
+idle f zoom m e = record { place = rw e tt; mode = rw e tt; start = rw e tt }
+
+-- ---- from soundness and types, and back
+
+pub lawful : (r : Registers) → soundB r ≡ true → Typed r → StartFits (r .work) → Lawful r
+lawful r e t start =
+    let s = sound-parts r e in
+    record {
+      cursor = record { ead = s .cursor; mask = t .mask };
+      drawing = s .drawing;
+      ram = t .ram;
+      pen = s .pen;
+      buffer = record { fits = s .buffer; long = t .entries };
+      progress = s .progress;
+      work = record { place = s .place; mode = s .work; start = start };
+    }
+
+-- .. where nothing is in progress, and the fresh set
+pub lawful-idle : (r : Registers) → soundB r ≡ true → Typed r → r .work ≡ Idle → Lawful r
+lawful-idle r e t p = lawful r e t (idle (r .drawing) (r .video .zoom) (r .mode) p .start)
+
+pub fresh-lawful : Lawful freshSet
+unfolding freshSet
+fresh-lawful = lawful-idle freshSet fresh-sound fresh-typed refl
+
+pub lawful-sound : (r : Registers) → Lawful r → soundB r ≡ true
+lawful-sound r l =
+    sound-whole r
+    (record {
+      cursor = l .cursor .ead;
+      drawing = l .drawing;
+      pen = l .pen;
+      progress = l .progress;
+      buffer = l .buffer .fits;
+      place = l .work .place;
+      work = l .work .mode;
+    })
+
+pub lawful-typed : (r : Registers) → Lawful r → Typed r
+lawful-typed r l = record { mask = l .cursor .mask; ram = l .ram; entries = l .buffer .long }
+
+-- ---- one register changed
+
+module _ (r : Registers) (l : Lawful r) where
+  pub cursor-kept : (c : Cursor) → Fits c → Lawful (putCursor r c)
+  cursor-kept c h =
+      record { cursor = h; drawing = l .drawing; ram = l .ram; pen = l .pen; buffer = l .buffer; progress = l .progress; work = l .work }
+
+  pub plain-kept : (pitch : ℕ) (op : Operation) → Lawful (putOp (putPitch r pitch) op)
+  plain-kept pitch op =
+      record { cursor = l .cursor; drawing = l .drawing; ram = l .ram; pen = l .pen; buffer = l .buffer; progress = l .progress; work = l .work }
+
+  pub drawing-kept : r .work ≡ Idle → (f : Drawing) → DrawingFits f → Lawful (putDrawing r f)
+  drawing-kept e f h =
+      record {
+        cursor = l .cursor;
+        drawing = h;
+        ram = l .ram;
+        pen = l .pen;
+        buffer = l .buffer;
+        progress = l .progress;
+        work = idle f (r .video .zoom) (r .mode) e;
+      }
+
+  pub ram-kept : (a : List ℕ) → length a ≡ 16 → Lawful (putRam r a)
+  ram-kept a h =
+      record { cursor = l .cursor; drawing = l .drawing; ram = h; pen = l .pen; buffer = l .buffer; progress = l .progress; work = l .work }
+
+  pub video-kept : r .work ≡ Idle → (v : Video) → Lawful (putVideo r v)
+  video-kept e v =
+      record {
+        cursor = l .cursor;
+        drawing = l .drawing;
+        ram = l .ram;
+        pen = l .pen;
+        buffer = l .buffer;
+        progress = l .progress;
+        work = idle (r .drawing) (v .zoom) (r .mode) e;
+      }
+
+  pub pen-kept : (p : Pen) → p .address < 262144 → Lawful (putPen r p)
+  pen-kept p h =
+      record { cursor = l .cursor; drawing = l .drawing; ram = l .ram; pen = h; buffer = l .buffer; progress = l .progress; work = l .work }
+
+  pub buffer-kept : (b : Buffer) → Queue (r .mode) b → Lawful (putBuffer r b)
+  buffer-kept b h =
+      record { cursor = l .cursor; drawing = l .drawing; ram = l .ram; pen = l .pen; buffer = h; progress = l .progress; work = l .work }
+
+  pub progress-kept : (p : Progress) → p .next ≤ 16 → Lawful (putProgress r p)
+  progress-kept p h =
+      record { cursor = l .cursor; drawing = l .drawing; ram = l .ram; pen = l .pen; buffer = l .buffer; progress = h; work = l .work }
+
+  pub work-kept : (w : Work) → Going (r .drawing) (r .video .zoom) (r .mode) w → Lawful (putWork r w)
+  work-kept w h =
+      record { cursor = l .cursor; drawing = l .drawing; ram = l .ram; pen = l .pen; buffer = l .buffer; progress = l .progress; work = h }
+
+-- ---- the memory
+
+set-below : (n : ℕ) (m : List ℕ) (i x j : ℕ) → getD m j 0 < n → x < n → getD (set m i x) j 0 < n
+set-below n [] i x j h p = h
+set-below n (y ∷ m) zero x zero h p = p
+set-below n (y ∷ m) zero x (suc j) h p = h
+set-below n (y ∷ m) (suc i) x zero h p = h
+set-below n (y ∷ m) (suc i) x (suc j) h p = set-below n m i x j h p
+
+-- a cycle leaves 16-bit words, as many as there were
+pub cycle-kept : (n : ℕ) (op : Operation) (pattern : ℕ) (r q : Registers) (m : List ℕ) → Whole n (state r m) → Lawful q
+    → Whole n (state q (cycled op pattern (r .cursor) m))
+cycle-kept n op pattern r q m h l =
+    record {
+      regs = l;
+      words =
+          record {
+            below =
+                λ j. set-below 65536 m _ _ j (h .words .below j) (combined-lt op (metBy (r .cursor .ead) m) (r .cursor .mask) pattern);
+          };
+      long = length-set m _ _ ∙ h .long;
+    }

@@ -1,0 +1,80 @@
+-- The ports, the status and the light pen keep a lawful register set lawful: what is queued is a byte, with a command mark or
+-- without, and a refusal answers the set given.
+use mathlib.Core.Path.{_≡_, refl}
+use mathlib.Core.Bool.{true}
+use Prim.Native.Nat.{ℕ, _+_, _<_}
+use native.Mathlib.Omega.{arith}
+use lib.Dec.{eqb, leb}
+use borrow.Author.Tests.{leb-false}
+use Rattle.registers.specs.declared.Mode.{Mode}
+use Rattle.registers.specs.declared.Mode.the-variants.{Write, Read}
+use Rattle.registers.specs.declared.Registers.{Registers}
+use Rattle.registers.specs.Sound.{soundB, markB}
+use Rattle.registers.specs.Buffer.{pushed, popped}
+use Rattle.ports.specs.declared.Answer.{Answer}
+use Rattle.ports.specs.Port.{queued, turnedBack, queuedOr3, commandIn, commandWritten, parameterIn, parameterWritten, byteIn, byteRead, statusRead, penPosted}
+use Rattle.laws.proofs.BranchLaws.{either, cases}
+use Rattle.laws.proofs.KeptLaws.{Lawful, buffer-kept, pen-kept}
+use Rattle.laws.proofs.KeptBufferLaws.{empty-queue, pushed-queue, popped-queue}
+use Rattle.laws.proofs.KeptProcessorLaws.{reset-kept}
+
+abbrev pub Answers : Answer → Type 0
+Answers a = Lawful (a .regs)
+
+module _ (r : Registers) (l : Lawful r) where
+  queued-kept : (e : ℕ) → e < markB (r .mode) → Lawful (queued r e)
+  queued-kept e h = buffer-kept r l (pushed (r .buffer) e) (pushed-queue (r .mode) (r .buffer) (l .buffer) e h)
+
+  queued-or-3 : (e : ℕ) → e < markB (r .mode) → Answers (queuedOr3 r e)
+  unfolding queuedOr3
+  queued-or-3 e h = either Answers (leb 16 (r .buffer .count)) l (queued-kept e h)
+
+turned-back : (r : Registers) → Lawful r → Lawful (turnedBack r)
+turned-back r l =
+    record {
+      cursor = l .cursor;
+      drawing = l .drawing;
+      ram = l .ram;
+      pen = l .pen;
+      buffer = empty-queue Write;
+      progress = l .progress;
+      work = record { place = tt; mode = tt; start = tt };
+    }
+
+module _ (r : Registers) (l : Lawful r) where
+  command-in : (m : Mode) → r .mode ≡ m → (b : ℕ) → b < 256 → Answers (commandIn m r b)
+  command-in Write e b h = queued-or-3 r l (b + 256) (rw e (omega arith))
+  command-in Read e b h = queued-kept (turnedBack r) (turned-back r l) (b + 256) (omega arith)
+
+  pub command-written-kept : (b : ℕ) → b < 256 → Answers (commandWritten r b)
+  unfolding commandWritten
+  command-written-kept b h =
+      either Answers (soundB r) (either Answers (eqb b 0) (reset-kept r l) (command-in (r .mode) refl b h)) l
+
+  parameter-in : (m : Mode) → r .mode ≡ m → (b : ℕ) → b < 256 → Answers (parameterIn m r b)
+  parameter-in Write e b h = queued-or-3 r l b (rw e (omega arith))
+  parameter-in Read e b h = l
+
+  pub parameter-written-kept : (b : ℕ) → b < 256 → Answers (parameterWritten r b)
+  unfolding parameterWritten
+  parameter-written-kept b h = either Answers (soundB r) (parameter-in (r .mode) refl b h) l
+
+  byte-in : (m : Mode) → Answers (byteIn m r)
+  byte-in Write = l
+  byte-in Read =
+      either Answers (eqb (r .buffer .count) 0) l
+      (buffer-kept r l (popped (r .buffer)) (popped-queue (r .mode) (r .buffer) (l .buffer)))
+
+  pub byte-read-kept : Answers (byteRead r)
+  unfolding byteRead
+  byte-read-kept = either Answers (soundB r) (byte-in (r .mode)) l
+
+  pub status-read-kept : Answers (statusRead r)
+  unfolding statusRead
+  status-read-kept = either Answers (soundB r) l l
+
+  pub pen-posted-kept : (a : ℕ) → Answers (penPosted r a)
+  unfolding penPosted
+  pen-posted-kept a =
+      either Answers (soundB r)
+      (cases Answers (leb 262144 a) (λ t. l) (λ t. pen-kept r l (record { address = a; set = true }) (leb-false 262144 a t))) l

@@ -1,0 +1,254 @@
+-- An entry that is taken keeps the registers lawful and the memory's words: each command and each parameter byte puts a value of
+-- its register's width. Nothing is in progress then, so no place can fall out of its figure; a figure starts only with a dot to
+-- draw, a read only with an item to give.
+use mathlib.Core.Path.{_≡_, refl, _∙_}
+use mathlib.Core.Bool.{false, _&&_}
+use mathlib.Core.List.{List}
+use Prim.Native.Nat.{ℕ, zero, suc, _/_, _%_, _^_, _≤_, _<_}
+use native.Mathlib.Omega.{arith}
+use lib.Dec.{eqb, ltb, ltb→lt}
+use lib.ListN.{set, length-set}
+use borrow.Author.Tests.{ltb-true, lt-ltb}
+use Rattle.dots.specs.declared.Cursor.{Cursor}
+use Rattle.dots.specs.Step.{Fits, wordMoveOf}
+use Rattle.dots.proofs.Below.{below}
+use Rattle.registers.specs.declared.Mode.the-variants.{Write, Read}
+use Rattle.registers.specs.declared.Transfer.{Transfer}
+use Rattle.registers.specs.declared.Command.{Command}
+use Rattle.registers.specs.declared.Command.the-variants.{Nothing, Reset, Vsync, Cchar, Start, Zoom, Curs, Pram, Pitch, Mask, Figs, Figd, Gchrd, Curd, Lprd, Wdat, Rdat, Unknown}
+use Rattle.registers.specs.declared.Work.the-variants.{Idle, Figure, Character, Reading}
+use Rattle.registers.specs.declared.Drawing.{Drawing}
+use Rattle.registers.specs.declared.Pen.{Pen}
+use Rattle.registers.specs.declared.Buffer.{Buffer}
+use Rattle.registers.specs.declared.Registers.{Registers}
+use Rattle.registers.specs.Fresh.{freshDrawing, emptyBuffer}
+use Rattle.registers.specs.Size.{dotsOf, rowsOf, columnsOf}
+use Rattle.registers.specs.Sound.{allBelow}
+use Rattle.registers.specs.Put.{putCursor, putProgress}
+use Rattle.registers.specs.State.{State, state}
+use Rattle.registers.proofs.BoolLaws.{and-left, and-right}
+use Rattle.commands.specs.Decode.{within, commandOf}
+use Rattle.processor.specs.Command.{begun, resetDone, turned, cursorBytes, penBytes, operationOf, figureBegun, characterBegun, readBegun, commandBy, commandTaken}
+use Rattle.processor.specs.Parameter.{cursBy, maskBy, figsBy, syncBy, ccharBy, zoomBy}
+use Rattle.processor.specs.Wdat.{halfB, wdatPattern, wdatProgress, setDone, wdatTaken}
+use Rattle.processor.specs.Entry.{counted, parameterBy, parameterTaken, entryTaken}
+use Rattle.laws.proofs.BranchLaws.{either, cases}
+use Rattle.laws.proofs.SoundLaws.{DrawingFits}
+use Rattle.laws.proofs.KeptLaws.{Queue, Lawful, Whole, idle, cursor-kept, plain-kept, drawing-kept, ram-kept, video-kept, pen-kept, progress-kept, work-kept, cycle-kept}
+use Rattle.laws.proofs.KeptBufferLaws.{bytes-queue, empty-queue}
+
+-- ---- commands
+
+pub reset-kept : (r : Registers) → Lawful r → Lawful (resetDone r)
+unfolding resetDone
+reset-kept r l =
+    record {
+      cursor = l .cursor;
+      drawing = l .drawing;
+      ram = l .ram;
+      pen = l .pen;
+      buffer = empty-queue Write;
+      progress = omega arith;
+      work = record { place = tt; mode = tt; start = tt };
+    }
+
+-- the bytes of a read suit read mode
+cursor-bytes : (c : Cursor) → Fits c → Queue Read (cursorBytes c)
+unfolding allBelow
+cursor-bytes c h =
+    bytes-queue Read (cursorBytes c .entries) 5 (omega arith) refl
+    (rw (
+      lt-ltb (c .ead % 256) 256 (omega arith),
+      lt-ltb (c .ead / 256 % 256) 256 (omega arith),
+      lt-ltb (c .ead / 65536 % 256) 256 (omega arith),
+      lt-ltb (c .mask % 256) 256 (omega arith),
+      lt-ltb (c .mask / 256) 256 (omega (arith, h .mask)),
+    ))
+
+pen-bytes : (p : Pen) → Queue Read (penBytes p)
+unfolding allBelow
+pen-bytes p =
+    bytes-queue Read (penBytes p .entries) 3 (omega arith) refl
+    (rw (
+      lt-ltb (p .address % 256) 256 (omega arith),
+      lt-ltb (p .address / 256 % 256) 256 (omega arith),
+      lt-ltb (p .address / 65536 % 256) 256 (omega arith),
+    ))
+
+fresh-drawing : (f : Drawing) → DrawingFits f → DrawingFits (freshDrawing f)
+fresh-drawing f s =
+    record { kind = s .kind; dir = s .dir; dc = omega arith; d = omega arith; d2 = omega arith; d1 = omega arith; dm = omega arith }
+
+module _ (r : Registers) (l : Lawful r) (e : r .work ≡ Idle) where
+  turned-kept : (b : Buffer) → Queue Read b → Lawful (turned r b)
+  turned-kept b q =
+      record {
+        cursor = l .cursor;
+        drawing = l .drawing;
+        ram = l .ram;
+        pen = l .pen;
+        buffer = q;
+        progress = l .progress;
+        work = idle (r .drawing) (r .video .zoom) Read e;
+      }
+
+  read-kept : (t : Transfer) → Lawful (readBegun t r)
+  unfolding readBegun
+  read-kept t =
+      let after : Lawful (turned r emptyBuffer) = turned-kept emptyBuffer (empty-queue Read) in
+      cases Lawful (ltb 0 (r .drawing .dc))
+      (λ p. work-kept (turned r emptyBuffer) after (Reading 0 t)
+      (record { place = ltb-true 0 (r .drawing .dc) p; mode = refl; start = tt }))
+      (λ p. after)
+
+  module _ (write : r .mode ≡ Write) where
+    figure-begins : Lawful (figureBegun r)
+    unfolding figureBegun
+    figure-begins =
+        cases Lawful (ltb 0 (dotsOf (r .drawing)))
+        (λ p. work-kept r l (Figure 0 (r .drawing .d))
+        (record { place = (ltb-true 0 (dotsOf (r .drawing)) p, l .drawing .d); mode = write; start = tt }))
+        (λ p. l)
+
+    character-begins : Lawful (characterBegun r)
+    unfolding characterBegun
+    character-begins =
+        let rows = rowsOf (r .drawing) (r .video .zoom) in
+        let columns = columnsOf (r .drawing) (r .video .zoom) in
+        cases Lawful (ltb 0 rows && ltb 0 columns)
+        (λ p. work-kept r l (Character 0 0 (r .cursor))
+        (record {
+          place =
+              (ltb-true 0 rows (and-left (ltb 0 rows) (ltb 0 columns) p), ltb-true 0 columns (and-right (ltb 0 rows) (ltb 0 columns) p), l .cursor .ead);
+          mode = write;
+          start = l .cursor .mask;
+        }))
+        (λ p. l)
+
+    command-by : (c : Command) (b : ℕ) → Lawful (commandBy c b r)
+    command-by Nothing b = l
+    command-by Reset b = reset-kept r l
+    command-by Vsync b = video-kept r l e _
+    command-by Cchar b = l
+    command-by Start b = video-kept r l e _
+    command-by Zoom b = l
+    command-by Curs b = l
+    command-by Pram b = l
+    command-by Pitch b = l
+    command-by Mask b = l
+    command-by Figs b = drawing-kept r l e (freshDrawing (r .drawing)) (fresh-drawing (r .drawing) (l .drawing))
+    command-by Figd b = figure-begins
+    command-by Gchrd b = character-begins
+    command-by Curd b = turned-kept (cursorBytes (r .cursor)) (cursor-bytes (r .cursor) (l .cursor))
+    command-by Lprd b =
+        pen-kept (turned r (penBytes (r .pen))) (turned-kept (penBytes (r .pen)) (pen-bytes (r .pen)))
+        (record { address = r .pen .address; set = false }) (l .pen)
+    command-by (Wdat t) b = plain-kept r l (r .pitch) (operationOf b)
+    command-by (Rdat t) b = read-kept t
+    command-by Unknown b = l
+
+pub command-kept : (b : ℕ) (r : Registers) → Lawful r → r .work ≡ Idle → r .mode ≡ Write → Lawful (commandTaken b r)
+unfolding commandTaken
+command-kept b r l e write =
+    let first : begun (commandOf b) b .next ≤ 16 = either (λ (n : ℕ). n ≤ 16) (within 0x70 0x7F b) (omega arith) (omega arith) in
+    command-by (putProgress r (begun (commandOf b) b)) (progress-kept r l (begun (commandOf b) b) first) e write (commandOf b) b
+
+-- ---- parameters
+
+pow-below : (k : ℕ) → k < 16 → 2 ^ k < 65536
+pow-below k h = ltb→lt _ _ (below (λ n. ltb (2 ^ n) 65536) 16 tt k h)
+
+module _ (i v : ℕ) (byte : v < 256) where
+  curs-fits : (c : Cursor) → Fits c → Fits (cursBy i v c)
+  unfolding cursBy
+  curs-fits c h =
+      either Fits (eqb i 0) (record { ead = omega (arith, h .ead); mask = h .mask })
+      (either Fits (eqb i 1) (record { ead = omega (arith, h .ead); mask = h .mask })
+      (either Fits (eqb i 2) (record { ead = omega (arith, h .ead); mask = pow-below (v / 16) (omega arith) }) h))
+
+  mask-fits : (c : Cursor) → Fits c → Fits (maskBy i v c)
+  unfolding maskBy
+  mask-fits c h =
+      either Fits (eqb i 0) (record { ead = h .ead; mask = omega (arith, h .mask) })
+      (either Fits (eqb i 1) (record { ead = h .ead; mask = omega (arith, h .mask) }) h)
+
+  figs-fits : (f : Drawing) → DrawingFits f → DrawingFits (figsBy i v f)
+  unfolding figsBy
+  figs-fits f s =
+      either DrawingFits (eqb i 0) (omega (arith, s))
+      (either DrawingFits (eqb i 1) (omega (arith, s))
+      (either DrawingFits (eqb i 2) (omega (arith, s))
+      (either DrawingFits (eqb i 3) (omega (arith, s))
+      (either DrawingFits (eqb i 4) (omega (arith, s))
+      (either DrawingFits (eqb i 5) (omega (arith, s))
+      (either DrawingFits (eqb i 6) (omega (arith, s))
+      (either DrawingFits (eqb i 7) (omega (arith, s))
+      (either DrawingFits (eqb i 8) (omega (arith, s))
+      (either DrawingFits (eqb i 9) (omega (arith, s))
+      (either DrawingFits (eqb i 10) (omega (arith, s)) s))))))))))
+
+pub word-fits : (dir h : ℕ) (c : Cursor) → Fits c → Fits (wordMoveOf dir h c)
+word-fits zero h c s = omega (arith, s .mask)
+word-fits (suc zero) h c s = omega (arith, s .mask)
+word-fits (suc (suc zero)) h c s = omega (arith, s .mask)
+word-fits (suc (suc (suc zero))) h c s = omega (arith, s .mask)
+word-fits (suc (suc (suc (suc zero)))) h c s = omega (arith, s .mask)
+word-fits (suc (suc (suc (suc (suc zero))))) h c s = omega (arith, s .mask)
+word-fits (suc (suc (suc (suc (suc (suc zero)))))) h c s = omega (arith, s .mask)
+word-fits (suc (suc (suc (suc (suc (suc (suc d))))))) h c s = omega (arith, s .mask)
+
+module _ (n : ℕ) (r : Registers) (m : List ℕ) (w : Whole n (state r m)) where
+  -- the registers changed and the memory left
+  left : {q : Registers} → Lawful q → Whole n (state q m)
+  left l = record { regs = l; words = w .words; long = w .long }
+
+  set-kept : (t : Transfer) → Lawful (setDone t r)
+  unfolding setDone
+  set-kept t =
+      let moved = wordMoveOf (r .drawing .dir) (r .pitch) (r .cursor) in
+      progress-kept (putCursor r moved) (cursor-kept r (w .regs) moved (word-fits (r .drawing .dir) (r .pitch) (r .cursor) (w .regs .cursor)))
+      (wdatProgress t 0 0) (omega arith)
+
+  wdat-kept : (t : Transfer) (i v : ℕ) → Whole n (wdatTaken t i v r m)
+  unfolding wdatTaken
+  wdat-kept t i v =
+      either (Whole n) (halfB t i)
+      (left (progress-kept r (w .regs) (wdatProgress t 1 v) (omega arith)))
+      (cycle-kept n (r .op) (wdatPattern t (r .progress .low) v) r (setDone t r) m w (set-kept t))
+
+  module _ (e : r .work ≡ Idle) (i v : ℕ) (byte : v < 256) where
+    parameter-by : (c : Command) → Whole n (parameterBy c i v r m)
+    parameter-by Nothing = w
+    parameter-by Reset = left (video-kept r (w .regs) e (syncBy i v (r .video)))
+    parameter-by Vsync = w
+    parameter-by Cchar = left (video-kept r (w .regs) e (ccharBy i v (r .video)))
+    parameter-by Start = w
+    parameter-by Zoom = left (video-kept r (w .regs) e (zoomBy i v (r .video)))
+    parameter-by Curs = left (cursor-kept r (w .regs) (cursBy i v (r .cursor)) (curs-fits i v byte (r .cursor) (w .regs .cursor)))
+    parameter-by Pram =
+        left (either Lawful (ltb i 16) (ram-kept r (w .regs) (set (r .ram) i v) (length-set (r .ram) i v ∙ w .regs .ram)) (w .regs))
+    parameter-by Pitch = left (either Lawful (eqb i 0) (plain-kept r (w .regs) v (r .op)) (w .regs))
+    parameter-by Mask = left (cursor-kept r (w .regs) (maskBy i v (r .cursor)) (mask-fits i v byte (r .cursor) (w .regs .cursor)))
+    parameter-by Figs = left (drawing-kept r (w .regs) e (figsBy i v (r .drawing)) (figs-fits i v byte (r .drawing) (w .regs .drawing)))
+    parameter-by Figd = w
+    parameter-by Gchrd = w
+    parameter-by Curd = w
+    parameter-by Lprd = w
+    parameter-by (Wdat t) = wdat-kept t i v
+    parameter-by (Rdat t) = w
+    parameter-by Unknown = w
+
+pub parameter-kept : (n v : ℕ) (s : State) → Whole n s → s .regs .work ≡ Idle → v < 256 → Whole n (parameterTaken v s)
+unfolding parameterTaken
+parameter-kept n v s w e byte =
+    let p = s .regs .progress in
+    let few : counted p .next ≤ 16 = cases (λ (k : ℕ). k ≤ 16) (ltb (p .next) 16) (λ t. omega (arith, ltb-true (p .next) 16 t)) (λ t. omega arith) in
+    parameter-by n (putProgress (s .regs) (counted p)) (s .mem)
+    (record { regs = progress-kept (s .regs) (w .regs) (counted p) few; words = w .words; long = w .long })
+    e (p .next) v byte (p .command)
+
+pub entry-kept : (n a : ℕ) (s : State) → Whole n s → s .regs .work ≡ Idle → s .regs .mode ≡ Write → Whole n (entryTaken a s)
+unfolding entryTaken
+entry-kept n a s w e write =
+    cases (Whole n) (ltb a 256) (λ t. parameter-kept n a s w e (ltb-true a 256 t))
+    (λ t. left n (s .regs) (s .mem) w (command-kept (a % 256) (s .regs) (w .regs) e write))
