@@ -22,7 +22,7 @@ use Rattle.registers.specs.Size.{dotsOf}
 use Rattle.registers.specs.State.{State, state}
 use Rattle.figures.specs.Figure.{patternAt}
 use Rattle.units.specs.Run.{lengthB}
-use Rattle.sending.proofs.SoundLaws.{Waiting}
+use Rattle.sending.proofs.WaitLaws.{Waiting}
 use Rattle.sending.proofs.SendLaws.{Leads, leads-then, Acts}
 use Rattle.sending.proofs.GroupLaws.{drawingSet, acts-figs}
 use Rattle.sending.proofs.DrawLaws.{stepAt, ended, figd, figd-draws, figd-waits}
@@ -64,11 +64,11 @@ module _ (p h : ℕ) (sized : Sized p h) (s : State) (held : Held p h s) (op : O
   figd-law figs f i n on sets all few geometry =
       record {
         after = ended (figd (drawingSet base f i)) (s .mem) n;
-        leads = leads-count (leads-then (head .leads (s .mem) (held .lawful)) (leads-then (tail .leads (s .mem) (held .lawful)) (figd-draws (tail .waits) (s .mem) (held .lawful) n all (omega arith)))) (omega arith);
-        waits = figd-waits (tail .waits) (s .mem) (held .lawful) n all (omega arith);
+        leads = leads-count (leads-then (head .leads (s .mem) (held .lawful)) (leads-then (tail .leads (s .mem) (held .lawful)) (figd-draws (tail .waits) n all (s .mem) (held .lawful) (omega arith)))) (omega arith);
+        waits = figd-waits (tail .waits) n all (s .mem);
         pitch = held .pitch;
         drawn = subst (λ (k : ℕ). Drawn p h op on solid (s .mem) (cycles op ones (walk (stepAt f) k (cursorAt (address p (a .x) (a .y)))) (suc n) (s .mem))) (sym (held .pitch))
-            (geometry ones (λ j k. pattern-ones (s .regs .ram) (held .waits .ram) j k));
+            (geometry ones (λ j k. pattern-ones (s .regs .ram) (held .waits .lawful .ram) j k));
       }
     where
       head : Acts (s .regs) (headEntries op p a) base

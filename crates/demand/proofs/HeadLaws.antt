@@ -25,8 +25,8 @@ use Rattle.registers.specs.declared.Transfer.the-variants.{Word}
 use Rattle.registers.specs.declared.Registers.{Registers}
 use Rattle.registers.specs.Put.{putCursor, putOp, putRam, putProgress}
 use Rattle.figures.specs.Figure.{patternAt}
-use Rattle.sending.proofs.SoundLaws.{Waiting}
-use Rattle.sending.proofs.SendLaws.{drained, Acts, acts-then}
+use Rattle.sending.proofs.WaitLaws.{Waiting, drained}
+use Rattle.sending.proofs.SendLaws.{Acts, acts-then}
 use Rattle.sending.proofs.EntryLaws.{progress, operationNumber, wdat-command}
 use Rattle.sending.proofs.GroupLaws.{acts-as, acts-curs, acts-ones}
 

@@ -17,7 +17,7 @@ use Rattle.entries.specs.Entries.{both, minus14, slopeOf, lineBy, lineEntries}
 use Rattle.registers.specs.declared.Drawing.{Drawing}
 use Rattle.registers.specs.Size.{dotsOf}
 use Rattle.registers.specs.State.{State}
-use Rattle.sending.proofs.SoundLaws.{Waiting}
+use Rattle.sending.proofs.WaitLaws.{Waiting}
 use Rattle.sending.proofs.SendLaws.{Acts, acts-then}
 use Rattle.sending.proofs.GroupLaws.{drawingSet, acts-figs, sends-dc, sends-d, sends-d2, sends-d1}
 use Rattle.demand.proofs.DrawsLaws.{Held, Draws, base, figd-law}

@@ -20,7 +20,7 @@ use Rattle.registers.specs.declared.Drawing.{Drawing}
 use Rattle.registers.specs.Size.{dotsOf}
 use Rattle.registers.specs.State.{State}
 use Rattle.figures.specs.Figure.{sideOf, directionAt}
-use Rattle.sending.proofs.SoundLaws.{Waiting}
+use Rattle.sending.proofs.WaitLaws.{Waiting}
 use Rattle.sending.proofs.SendLaws.{Acts, acts-then}
 use Rattle.sending.proofs.GroupLaws.{drawingSet, acts-figs, sends-dc, sends-d, sends-d2, sends-d1, sends-dm}
 use Rattle.sending.proofs.DrawLaws.{stepAt}

@@ -23,8 +23,8 @@ use Rattle.registers.specs.State.{State, state}
 use Rattle.registers.specs.Typed.{Typed}
 use Rattle.units.specs.Run.{reasonOf, lengthB}
 use Rattle.sending.specs.Send.{Ready, sentAll}
-use Rattle.sending.proofs.SoundLaws.{Waiting, waiting}
-use Rattle.sending.proofs.SendLaws.{Leads, leads-then, waiting-reason}
+use Rattle.sending.proofs.WaitLaws.{Waiting, waiting, waiting-reason}
+use Rattle.sending.proofs.SendLaws.{Leads, leads-then}
 use Rattle.sending.proofs.GroupLaws.{acts-pitch}
 use Rattle.demand.specs.Picture.{figuresMade, figuresDots}
 use Rattle.demand.specs.Shown.{Shown, Bytes, PictureIsRight}

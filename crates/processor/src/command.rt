@@ -16,8 +16,18 @@ ghost use mathlib.Core.Bool.{true};
 ghost use Rattle.registers.specs.Put.{putVideo, putDisplay, putVsync, putDrawing, putOp, putProgress, putWork};
 ghost use Rattle.registers.specs.Fresh.{freshDrawing, emptyBuffer};
 ghost use Rattle.processor.specs.Command.{
-    firstOf, begun, resetDone, turned, cursorBytes, penBytes, penGiven, operationOf, figureBegun, characterBegun, readBegun,
-    commandTaken
+  firstOf,
+  begun,
+  resetDone,
+  turned,
+  cursorBytes,
+  penBytes,
+  penGiven,
+  operationOf,
+  figureBegun,
+  characterBegun,
+  readBegun,
+  commandTaken,
 };
 
 // The command in progress, with no parameter taken.
@@ -215,7 +225,13 @@ fn begin_figure(r: Registers) -> Registers
 {
     let dots = registers::dots_of(r.drawing);
     if 0 < dots {
-        return work_on(r, Work::Figure { dot: 0, d: r.drawing.d });
+        return work_on(
+            r,
+            Work::Figure {
+                dot: 0,
+                d: r.drawing.d,
+            },
+        );
     }
     r
 }
@@ -228,7 +244,14 @@ fn begin_character(r: Registers) -> Registers
     let columns = registers::columns_of(r.drawing, r.video.zoom);
     let start = r.cursor;
     if (0 < rows) & (0 < columns) {
-        return work_on(r, Work::Character { row: 0, column: 0, start: start });
+        return work_on(
+            r,
+            Work::Character {
+                row: 0,
+                column: 0,
+                start: start,
+            },
+        );
     }
     r
 }
@@ -239,7 +262,13 @@ fn begin_read(r: Registers, t: Transfer) -> Registers
 {
     let n = turn(r, no_entries());
     if 0 < r.drawing.dc {
-        return work_on(n, Work::Reading { item: 0, transfer: t });
+        return work_on(
+            n,
+            Work::Reading {
+                item: 0,
+                transfer: t,
+            },
+        );
     }
     n
 }

@@ -5,6 +5,3 @@ ghost use Rattle.registers.specs.State.{state};
 ghost use Rattle.processor.specs.Entry.{entryTaken};
 
 pub mod command;
-
-
-

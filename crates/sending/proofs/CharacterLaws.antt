@@ -30,10 +30,9 @@ use Rattle.geometry.proofs.CycleLaws.{cycles}
 use Rattle.geometry.proofs.GlyphLaws.{spot, in-row-mod, in-row-div, row-end-mod, row-end-div}
 use Rattle.sending.specs.Send.{fullBudget}
 use Rattle.sending.proofs.RunLaws.{units-last}
-use Rattle.sending.proofs.SoundLaws.{Waiting}
-use Rattle.sending.proofs.SendLaws.{drained, takenBy, Leads, leads-one}
+use Rattle.sending.proofs.WaitLaws.{Waiting, drained, takenBy, units-lawful}
+use Rattle.sending.proofs.SendLaws.{Leads, leads-one}
 use Rattle.sending.proofs.EntryLaws.{progress}
-use Rattle.sending.proofs.DrawLaws.{walk-ead, rests}
 
 module _ (r : Registers) (m : List ℕ) (some : 0 < columnsOf (r .drawing) (r .video .zoom)) where
   abbrev w : ℕ
@@ -114,26 +113,26 @@ module _ (r : Registers) (m : List ℕ) (some : 0 < columnsOf (r .drawing) (r .v
 abbrev pub gchrd : Registers → Registers
 gchrd q = putProgress (drained q) (progress Gchrd 0)
 
-module _ {q : Registers} (v : Waiting q) (m : List ℕ) (long : lengthB (length m) ≡ true) (some : 0 < columnsOf (q .drawing) (q .video .zoom)) (n : ℕ)
-    (all : suc n ≡ rowsOf (q .drawing) (q .video .zoom) * columnsOf (q .drawing) (q .video .zoom)) (few : n + 2 < fullBudget) where
-  taken : 0 < rowsOf (q .drawing) (q .video .zoom) → takenBy 0x168 q m ≡ begun (gchrd q) m some
+module _ {q : Registers} (v : Waiting q) (some : 0 < columnsOf (q .drawing) (q .video .zoom)) (n : ℕ)
+    (all : suc n ≡ rowsOf (q .drawing) (q .video .zoom) * columnsOf (q .drawing) (q .video .zoom)) where
+  taken : (m : List ℕ) → 0 < rowsOf (q .drawing) (q .video .zoom) → takenBy 0x168 q m ≡ begun (gchrd q) m some
   unfolding entryTaken commandTaken commandOf characterBegun
-  taken h = rw (lt-ltb 0 (rowsOf (q .drawing) (q .video .zoom)) h, lt-ltb 0 (columnsOf (q .drawing) (q .video .zoom)) some)
+  taken m h = rw (lt-ltb 0 (rowsOf (q .drawing) (q .video .zoom)) h, lt-ltb 0 (columnsOf (q .drawing) (q .video .zoom)) some)
 
-  pub gchrd-draws : Leads (state q m) (0x168 ∷ []) (suc n) (finished (gchrd q) m some n)
+  reaches : (m : List ℕ) (i : ℕ) → unitsDone i (takenBy 0x168 q m) ≡ unitsDone i (begun (gchrd q) m some)
+  reaches m i = ap (unitsDone i) (taken m (omega (arith, rows-end (gchrd q) m some n all)))
+
+  done : (m : List ℕ) → unitsDone (suc n) (takenBy 0x168 q m) ≡ finished (gchrd q) m some n
+  done m = reaches m (suc n) ∙ whole (gchrd q) m some n all
+
+  pub gchrd-draws : (m : List ℕ) → lengthB (length m) ≡ true → n + 2 < fullBudget → Leads (state q m) (0x168 ∷ []) (suc n) (finished (gchrd q) m some n)
   unfolding reasonOf
-  gchrd-draws =
-      subst (Leads (state q m) (0x168 ∷ []) (suc n)) (reaches (suc n) ∙ whole (gchrd q) m some n all)
+  gchrd-draws m long few =
+      subst (Leads (state q m) (0x168 ∷ []) (suc n)) (done m)
       (leads-one q m 0x168 v (omega arith) (λ z. omega arith) long (suc n)
-      (λ i h. ap (λ (s : State). reasonOf (s .regs)) (reaches i ∙ path (gchrd q) m some i (omega arith)))
-      (ap (λ (s : State). reasonOf (s .regs)) (reaches (suc n) ∙ whole (gchrd q) m some n all) ∙ rw (v .mode))
+      (λ i h. ap (λ (s : State). reasonOf (s .regs)) (reaches m i ∙ path (gchrd q) m some i (omega arith)))
+      (ap (λ (s : State). reasonOf (s .regs)) (done m) ∙ rw (v .mode))
       (omega arith))
-    where
-      reaches : (i : ℕ) → unitsDone i (takenBy 0x168 q m) ≡ unitsDone i (begun (gchrd q) m some)
-      reaches i = ap (unitsDone i) (taken (omega (arith, rows-end (gchrd q) m some n all)))
 
-  pub gchrd-waits : Waiting (finished (gchrd q) m some n .regs)
-  unfolding spot
-  gchrd-waits =
-      rests v (progress Gchrd 0) (omega arith) _
-      (walk-ead _ (q .pitch) _ (walk-ead _ (q .pitch) (q .cursor) (v .ead) (n / columnsOf (q .drawing) (q .video .zoom))) (n % columnsOf (q .drawing) (q .video .zoom)))
+  pub gchrd-waits : (m : List ℕ) → Waiting (finished (gchrd q) m some n .regs)
+  gchrd-waits m = record { lawful = units-lawful v 0x168 (suc n) (done []); mode = v .mode; idle = refl; empty = refl }

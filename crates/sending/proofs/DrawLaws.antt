@@ -29,42 +29,9 @@ use Rattle.geometry.proofs.WalkLaws.{walk}
 use Rattle.geometry.proofs.CycleLaws.{cycles}
 use Rattle.sending.specs.Send.{fullBudget}
 use Rattle.sending.proofs.RunLaws.{units-last}
-use Rattle.sending.proofs.SoundLaws.{Waiting}
-use Rattle.sending.proofs.SendLaws.{drained, takenBy, Leads, leads-one}
+use Rattle.sending.proofs.WaitLaws.{Waiting, drained, takenBy, units-lawful}
+use Rattle.sending.proofs.SendLaws.{Leads, leads-one}
 use Rattle.sending.proofs.EntryLaws.{progress}
-
--- ---- a walk keeps to the 18 bits of EAD
-step-ead : (dir p : ℕ) (c : Cursor) → stepOf dir p c .ead < 262144
-step-ead zero p c = omega arith
-step-ead (suc zero) p c = omega arith
-step-ead (suc (suc zero)) p c = omega arith
-step-ead (suc (suc (suc zero))) p c = omega arith
-step-ead (suc (suc (suc (suc zero)))) p c = omega arith
-step-ead (suc (suc (suc (suc (suc zero))))) p c = omega arith
-step-ead (suc (suc (suc (suc (suc (suc zero)))))) p c = omega arith
-step-ead (suc (suc (suc (suc (suc (suc (suc d))))))) p c = omega arith
-
-pub walk-ead : (dirs : ℕ → ℕ) (p : ℕ) (c : Cursor) → c .ead < 262144 → (n : ℕ) → walk dirs p c n .ead < 262144
-unfolding walk
-walk-ead dirs p c h zero = h
-walk-ead dirs p c h (suc n) = step-ead (dirs n) p (walk dirs p c n)
-
--- the controller waits again when a figure has ended
-pub rests : {q : Registers} → Waiting q → (p : Progress) → p .next ≤ 16 → (c : Cursor) → c .ead < 262144
-    → Waiting (putWork (putCursor (putProgress (drained q) p) c) Idle)
-unfolding allBelow
-rests v p next c ead = record {
-  mode = v .mode;
-  idle = refl;
-  empty = refl;
-  slots = refl;
-  held = refl;
-  ram = v .ram;
-  ead = ead;
-  drawing = v .drawing;
-  pen = v .pen;
-  next = next;
-}
 
 -- the running D at dot i, and the step after it
 unfoldable pub runningAt : Drawing → ℕ → ℕ
@@ -115,19 +82,21 @@ begun : (q : Registers) (m : List ℕ) → 0 < dotsOf (q .drawing) → takenBy 0
 unfolding entryTaken commandTaken commandOf figureBegun
 begun q m h = rw (lt-ltb 0 (dotsOf (q .drawing)) h)
 
-module _ {q : Registers} (v : Waiting q) (m : List ℕ) (long : lengthB (length m) ≡ true) (n : ℕ) (all : suc n ≡ dotsOf (q .drawing))
-    (few : n + 2 < fullBudget) where
-  pub figd-draws : Leads (state q m) (0x16C ∷ []) (suc n) (ended (figd q) m n)
-  unfolding reasonOf
-  figd-draws =
-      subst (Leads (state q m) (0x16C ∷ []) (suc n)) (reaches (suc n) ∙ whole (figd q) m n all)
-      (leads-one q m 0x16C v (omega arith) (λ z. omega arith) long (suc n)
-      (λ i h. ap (λ (s : State). reasonOf (s .regs)) (reaches i ∙ path (figd q) m i (omega arith)))
-      (ap (λ (s : State). reasonOf (s .regs)) (reaches (suc n) ∙ whole (figd q) m n all) ∙ rw (v .mode))
-      (omega arith))
-    where
-      reaches : (i : ℕ) → unitsDone i (takenBy 0x16C q m) ≡ unitsDone i (state (putWork (figd q) (Figure 0 (q .drawing .d))) m)
-      reaches i = ap (unitsDone i) (begun q m (omega arith))
+module _ {q : Registers} (v : Waiting q) (n : ℕ) (all : suc n ≡ dotsOf (q .drawing)) where
+  reaches : (m : List ℕ) (i : ℕ) → unitsDone i (takenBy 0x16C q m) ≡ unitsDone i (state (putWork (figd q) (Figure 0 (q .drawing .d))) m)
+  reaches m i = ap (unitsDone i) (begun q m (omega arith))
 
-  pub figd-waits : Waiting (ended (figd q) m n .regs)
-  figd-waits = rests v (progress Figd 0) (omega arith) _ (walk-ead (stepAt (q .drawing)) (q .pitch) (q .cursor) (v .ead) n)
+  done : (m : List ℕ) → unitsDone (suc n) (takenBy 0x16C q m) ≡ ended (figd q) m n
+  done m = reaches m (suc n) ∙ whole (figd q) m n all
+
+  pub figd-draws : (m : List ℕ) → lengthB (length m) ≡ true → n + 2 < fullBudget → Leads (state q m) (0x16C ∷ []) (suc n) (ended (figd q) m n)
+  unfolding reasonOf
+  figd-draws m long few =
+      subst (Leads (state q m) (0x16C ∷ []) (suc n)) (done m)
+      (leads-one q m 0x16C v (omega arith) (λ z. omega arith) long (suc n)
+      (λ i h. ap (λ (s : State). reasonOf (s .regs)) (reaches m i ∙ path (figd q) m i (omega arith)))
+      (ap (λ (s : State). reasonOf (s .regs)) (done m) ∙ rw (v .mode))
+      (omega arith))
+
+  pub figd-waits : (m : List ℕ) → Waiting (ended (figd q) m n .regs)
+  figd-waits m = record { lawful = units-lawful v 0x16C (suc n) (done []); mode = v .mode; idle = refl; empty = refl }

@@ -16,8 +16,8 @@ use Rattle.registers.specs.declared.Registers.{Registers}
 use Rattle.registers.specs.Fresh.{freshDrawing}
 use Rattle.registers.specs.Put.{putCursor, putPitch, putDrawing, putRam, putVideo, putProgress, putZoom, putGd, putKind, putDir, putDc, putD, putD2, putD1, putDm}
 use Rattle.processor.specs.Parameter.{lowByte, highSix, cursBy, figsBy}
-use Rattle.sending.proofs.SoundLaws.{Waiting}
-use Rattle.sending.proofs.SendLaws.{drained, Acts, acts-then}
+use Rattle.sending.proofs.WaitLaws.{Waiting, drained}
+use Rattle.sending.proofs.SendLaws.{Acts, acts-then}
 use Rattle.sending.proofs.EntryLaws.{progress, pitch-command, zoom-command, curs-command, pram-command, figs-command, curs-byte, pram-byte, figs-byte, pitch-byte, zoom-byte}
 
 pub acts-as : {r q q′ : Registers} {l : List ℕ} → Acts r l q → q ≡ q′ → Acts r l q′

@@ -1,5 +1,5 @@
 pub mod RunLaws
-pub mod SoundLaws
+pub mod WaitLaws
 pub mod SendLaws
 pub mod EntryLaws
 pub mod GroupLaws

@@ -24,7 +24,7 @@ use Rattle.ports.specs.declared.Answer.{Answer}
 use Rattle.ports.specs.Port.{granted, queued, queuedOr3, commandIn, parameterIn, commandWritten, parameterWritten}
 use Rattle.sending.specs.Send.{written, fullBudget, Reply, sent, left, Accepted, sentAll, AllAccepted, unitsOf}
 use Rattle.sending.proofs.RunLaws.{runs}
-use Rattle.sending.proofs.SoundLaws.{Waiting, waiting-sound, queued-sound}
+use Rattle.sending.proofs.WaitLaws.{Waiting, waiting-reason, drained, takenBy, waiting-sound, queued-sound, units-lawful}
 
 -- ---- lists of entries
 -- entries that are all accepted, the state that they lead to, and how many units their runs make beside one for each entry
@@ -61,14 +61,6 @@ unfolding sentAll unitsOf
 leads-nothing s = record { accepted = tt; ends = refl; units = refl }
 
 -- ---- one entry
--- the buffer is as an entry that was taken leaves it
-abbrev pub drained : Registers → Registers
-drained r = putBuffer r emptyBuffer
-
--- what an entry does to registers and memory when it is taken
-abbrev pub takenBy : ℕ → Registers → List ℕ → State
-takenBy e r m = entryTaken e (state (drained r) m)
-
 module _ (b : Buffer) (e : ℕ) (z : b .count ≡ 0) where
   oldest-pushed : 0 < length (b .entries) → oldest (pushed b e) ≡ e
   unfolding oldest pushed
@@ -89,14 +81,14 @@ module _ (r : Registers) (m : List ℕ) (e : ℕ) (v : Waiting r) (small : e < 5
 
   by-parameter : parameterWritten r e ≡ granted 0 (queued r e)
   unfolding parameterWritten
-  by-parameter = rw (waiting-sound r v) (ap (λ (x : Mode). parameterIn x r e) (v .mode) ∙ room)
+  by-parameter = rw (waiting-sound v e) (ap (λ (x : Mode). parameterIn x r e) (v .mode) ∙ room)
 
   by-command : 256 ≤ e → commandWritten r (e - 256) ≡ granted 0 (queued r e)
   unfolding commandWritten
   by-command h =
       let z : eqb (e - 256) 0 ≡ false = ne-eqb (e - 256) 0 (λ q. other (omega arith)) in
       let same : e - 256 + 256 ≡ e = omega arith in
-      rw (waiting-sound r v, z) (ap (λ (x : Mode). commandIn x r (e - 256)) (v .mode) ∙ ap (queuedOr3 r) same ∙ room)
+      rw (waiting-sound v e, z) (ap (λ (x : Mode). commandIn x r (e - 256)) (v .mode) ∙ ap (queuedOr3 r) same ∙ room)
 
   -- the port takes it
   is-written : written r e ≡ granted 0 (queued r e)
@@ -120,7 +112,7 @@ module _ (r : Registers) (m : List ℕ) (e : ℕ) (v : Waiting r) (small : e < 5
       ap (λ (w : Work). unitBy w loaded) (v .idle)
       ∙ ap₂ (λ (x : Mode) (k : ℕ). fetchBy x k loaded) (v .mode) (pushed-one (r .buffer) e (v .empty))
       ∙ ap₂ (λ (x : ℕ) (b : Buffer). entryTaken x (state (putBuffer r b) m))
-      (oldest-pushed (r .buffer) e (v .empty) (omega (arith, v .slots))) (popped-pushed (r .buffer) e (v .empty))
+      (oldest-pushed (r .buffer) e (v .empty) (omega (arith, v .lawful .buffer .long))) (popped-pushed (r .buffer) e (v .empty))
 
   abbrev reached : ℕ → State
   reached n = unitsDone n (takenBy e r m)
@@ -130,7 +122,7 @@ module _ (r : Registers) (m : List ℕ) (e : ℕ) (v : Waiting r) (small : e < 5
     run-is : runDone fullBudget loaded ≡ stopped (reached n) (suc n) 2
     unfolding runDone unitsDone
     run-is =
-        rw (queued-sound r e v small, long)
+        rw (queued-sound v e small, long)
         (runs (suc n) fullBudget 0 loaded each (ap (λ (s : State). reasonOf (unitsDone n s .regs)) loaded-unit ∙ idle) (omega arith)
         ∙ ap₂ (λ (s : State) (k : ℕ). stopped (unitsDone n s) k 2) loaded-unit (omega arith))
       where
@@ -158,22 +150,21 @@ module _ (r : Registers) (m : List ℕ) (e : ℕ) (v : Waiting r) (small : e < 5
     }
 
 -- ---- entries that start nothing: only the registers change, whatever the memory holds
-pub waiting-reason : (r : Registers) → Waiting r → reasonOf r ≡ 2
-unfolding reasonOf
-waiting-reason r v = rw (v .idle, v .mode, v .empty)
-
 pub record Acts (r : Registers) (l : List ℕ) (q : Registers) : Type 0 where
   pub leads : (m : List ℕ) → lengthB (length m) ≡ true → Leads (state r m) l 0 (state q m)
   pub waits : Waiting q
 
-pub acts-one : {r q : Registers} {e : ℕ} → Waiting r → e < 512 → (e ≡ 256 → ⊥) → ((m : List ℕ) → takenBy e r m ≡ state q m) → Waiting q
-    → Acts r (e ∷ []) q
+pub acts-one : {r q : Registers} {e : ℕ} → Waiting r → e < 512 → (e ≡ 256 → ⊥) → ((m : List ℕ) → takenBy e r m ≡ state q m)
+    → q .mode ≡ r .mode → q .work ≡ r .work → q .buffer ≡ emptyBuffer → Acts r (e ∷ []) q
 unfolding unitsDone
-acts-one {r} {q} {e} v small other is w = record {
+acts-one {r} {q} {e} v small other is mode work buffer = record {
   leads = λ m long. subst (Leads (state r m) (e ∷ []) 0) (is m)
-      (leads-one r m e v small other long 0 (λ i h. absurd (omega arith)) (ap (λ (s : State). reasonOf (s .regs)) (is m) ∙ waiting-reason q w) (omega arith));
-  waits = w;
+      (leads-one r m e v small other long 0 (λ i h. absurd (omega arith)) (ap (λ (s : State). reasonOf (s .regs)) (is m) ∙ waiting-reason q waits) (omega arith));
+  waits = waits;
 }
+  where
+    waits : Waiting q
+    waits = record { lawful = units-lawful v e 0 (is []); mode = mode ∙ v .mode; idle = work ∙ v .idle; empty = ap (λ (b : Buffer). b .count) buffer }
 
 pub acts-then : {r q s : Registers} {a b : List ℕ} → Acts r a q → Acts q b s → Acts r (a ++ b) s
 acts-then u v = record { leads = λ m long. leads-then (u .leads m long) (v .leads m long); waits = v .waits }
