@@ -5,7 +5,6 @@ ghost use Rattle.registers.specs.State.{state};
 ghost use Rattle.processor.specs.Entry.{entryTaken};
 
 pub mod command;
-<<<<<<< HEAD
 mod parameter;
 mod wdat;
 
@@ -19,5 +18,3 @@ pub fn entry_taken(r: Registers, e: u16, mem: &mut [u16]) -> Registers
     }
     command::command_taken(r, byte)
 }
-=======
->>>>>>> e13b889aa915d3e0eb8e987c0d4129840f5fbe60
