@@ -1,0 +1,89 @@
+-- A figure that FIGD draws, from its first entry to its last dot: if the walk of its registers changes a shape of the plane once,
+-- as geometry shows of dots, lines and rectangles, then its entries are accepted and change just that shape. A dot is the first case.
+use mathlib.Core.Path.{_≡_, refl, sym, ap, subst, _∙_}
+use mathlib.Core.Bool.{true}
+use mathlib.Core.List.{List, [], _∷_, _++_}
+use Prim.Native.Nat.{ℕ, suc, _+_, _*_, _%_, _≤_, _<_}
+use native.Mathlib.Omega.{arith}
+use lib.ListN.{length, set}
+use Rattle.dots.specs.declared.Operation.{Operation}
+use Rattle.dots.specs.Bit.{bit}
+use Rattle.dots.specs.Dot.{cursorAt}
+use Rattle.dots.proofs.DotLaws.{address}
+use Rattle.geometry.specs.Plane.{InPlane, Picture, Shape, solid, dotOn}
+use Rattle.geometry.proofs.WalkLaws.{Sized, walk}
+use Rattle.geometry.proofs.CycleLaws.{cycles, Drawn, drawn-as}
+use Rattle.geometry.proofs.FigureLaws.{dot-drawn}
+use Rattle.records.specs.declared.Point.{Point}
+use Rattle.entries.specs.Entries.{headEntries, dotEntries}
+use Rattle.registers.specs.declared.Drawing.{Drawing}
+use Rattle.registers.specs.declared.Registers.{Registers}
+use Rattle.registers.specs.Size.{dotsOf}
+use Rattle.registers.specs.State.{State, state}
+use Rattle.figures.specs.Figure.{patternAt}
+use Rattle.units.specs.Run.{lengthB}
+use Rattle.sending.proofs.WaitLaws.{Waiting}
+use Rattle.sending.proofs.SendLaws.{Leads, leads-then, Acts}
+use Rattle.sending.proofs.GroupLaws.{drawingSet, acts-figs}
+use Rattle.sending.proofs.DrawLaws.{stepAt, ended, figd, figd-draws, figd-waits}
+use Rattle.demand.proofs.HeadLaws.{aimed, acts-head, pattern-ones}
+
+-- the controller waits, its pitch is the plane's, and the plane fits a lawful memory
+pub record Held (p h : ℕ) (s : State) : Type 0 where
+  pub waits : Waiting (s .regs)
+  pub pitch : s .regs .pitch ≡ p
+  pub room : p * h ≤ length (s .mem)
+  pub lawful : lengthB (length (s .mem)) ≡ true
+
+-- entries that change a shape and nothing else, with n units beside one for each entry; the controller waits again
+pub record Draws (p h : ℕ) (op : Operation) (on : Shape) (ink : Picture) (s : State) (l : List ℕ) (n : ℕ) : Type 0 where
+  pub after : State
+  pub leads : Leads s l n after
+  pub waits : Waiting (after .regs)
+  pub pitch : after .regs .pitch ≡ p
+  pub drawn : Drawn p h op on ink (s .mem) (after .mem)
+
+pub leads-count : {s s′ : State} {l : List ℕ} {m n : ℕ} → Leads s l m s′ → m ≡ n → Leads s l n s′
+leads-count {s} {s′} {l} v e = subst (λ (k : ℕ). Leads s l k s′) e v
+
+-- the same by another test of the shape, or another count
+pub draws-as : {p h : ℕ} {op : Operation} {on on′ : Shape} {ink : Picture} {s : State} {l : List ℕ} {m n : ℕ} → ((x y : ℕ) → on x y ≡ on′ x y) → m ≡ n
+    → Draws p h op on ink s l m → Draws p h op on′ ink s l n
+draws-as same e d = record { after = d .after; leads = leads-count (d .leads) e; waits = d .waits; pitch = d .pitch; drawn = drawn-as same (d .drawn) }
+
+module _ (p h : ℕ) (sized : Sized p h) (s : State) (held : Held p h s) (op : Operation) (a : Point) (inside : InPlane p h (a .x) (a .y)) where
+  -- the registers before FIGS
+  abbrev pub base : Registers
+  base = aimed (s .regs) op (cursorAt (address p (a .x) (a .y)))
+
+  -- the entries of FIGS set f; n + 1 dots
+  pub figd-law : (figs : List ℕ) (f : Drawing) (i n : ℕ) (on : Shape) → (Waiting base → Acts base figs (drawingSet base f i)) → suc n ≡ dotsOf f → n < 65536
+      → ((t : ℕ → ℕ) → ((j k : ℕ) → bit (k % 16) (t j) ≡ 1)
+      → Drawn p h op on solid (s .mem) (cycles op t (walk (stepAt f) p (cursorAt (address p (a .x) (a .y)))) (suc n) (s .mem)))
+      → Draws p h op on solid s (headEntries op p a ++ figs ++ 0x16C ∷ []) (suc n)
+  figd-law figs f i n on sets all few geometry =
+      record {
+        after = ended (figd (drawingSet base f i)) (s .mem) n;
+        leads = leads-count (leads-then (head .leads (s .mem) (held .lawful)) (leads-then (tail .leads (s .mem) (held .lawful)) (figd-draws (tail .waits) n all (s .mem) (held .lawful) (omega arith)))) (omega arith);
+        waits = figd-waits (tail .waits) n all (s .mem);
+        pitch = held .pitch;
+        drawn = subst (λ (k : ℕ). Drawn p h op on solid (s .mem) (cycles op ones (walk (stepAt f) k (cursorAt (address p (a .x) (a .y)))) (suc n) (s .mem))) (sym (held .pitch))
+            (geometry ones (λ j k. pattern-ones (s .regs .ram) (held .waits .lawful .ram) j k));
+      }
+    where
+      head : Acts (s .regs) (headEntries op p a) base
+      head = acts-head p h (sized .area) a inside op (held .waits)
+
+      tail : Acts base figs (drawingSet base f i)
+      tail = sets (head .waits)
+
+      ones : ℕ → ℕ
+      ones = patternAt (set (set (s .regs .ram) 8 255) 9 255)
+
+  pub dot-law : Draws p h op (dotOn (a .x) (a .y)) solid s (dotEntries op p a) 1
+  unfolding dotEntries dotsOf
+  dot-law =
+      figd-law (0x14C ∷ 0x02 ∷ [])
+      (record { kind = 0; dir = 2; gd = s .regs .drawing .gd; dc = 0; d = 8; d2 = 8; d1 = 16383; dm = 16383 }) 1 0 (dotOn (a .x) (a .y))
+      (λ v. acts-figs v 2 0 2 (omega arith) refl refl) refl (omega arith)
+      (λ t ones. dot-drawn op p h sized (s .mem) (held .room) t _ (cursorAt (address p (a .x) (a .y))) (ones 0) (a .x) (a .y) inside refl)

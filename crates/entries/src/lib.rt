@@ -1,0 +1,345 @@
+// The entries for one figure: the commands and parameter bytes that draw it.
+use dots::Operation;
+use records::Figure;
+use records::Point;
+use records::Record;
+ghost use mathlib.Core.Path.{_≡_};
+ghost use Prim.Native.Nat.{_+_, _*_, _/_, _%_, _-_, _<_, min, max};
+ghost use lib.ListN.{getD, set};
+ghost use Rattle.entries.specs.Entries.{opNumber, minus14, distance, dirOf, slopeOf, dotEntries, lineEntries, rectangleEntries, glyphEntries, least, greatest, plain, sizeOf, entriesOf, placed};
+
+// A line's direction, its larger distance and its smaller one.
+pub struct Slope {
+    pub dir: u8,
+    pub major: u16,
+    pub minor: u16,
+}
+
+fn op_number(o: Operation) -> u16
+    ensures { λ r. ⌜ (r ≡ opNumber o) × (r < 4) ⌝ }
+{
+    match o {
+        Operation::Replace => 0,
+        Operation::Complement => 1,
+        Operation::Reset => 2,
+        Operation::Set => 3,
+    }
+}
+
+// The word of the dot (x, y).
+fn word_of(p: u8, x: u16, y: u32) -> u32
+    requires { ⌜ y < 131072 ⌝ }
+    ensures { λ r. ⌜ r ≡ y * p + x / 16 ⌝ }
+{
+    y * p as u32 + x as u32 / 16
+}
+
+// x - n in 14 bits.
+fn minus(x: u32, n: u32) -> u32
+    ensures { λ r. ⌜ r ≡ minus14 x n ⌝ }
+{
+    (x % 16384 + 16384 - n % 16384) % 16384
+}
+
+fn apart(a: u16, b: u16) -> u16
+    ensures { λ r. ⌜ r ≡ distance a b ⌝ }
+{
+    if a < b { b - a } else { a - b }
+}
+
+fn smaller(a: u16, b: u16) -> u16
+    ensures { λ r. ⌜ r ≡ min a b ⌝ }
+{
+    if a < b { a } else { b }
+}
+
+fn larger(a: u16, b: u16) -> u16
+    ensures { λ r. ⌜ r ≡ max a b ⌝ }
+{
+    if a < b { b } else { a }
+}
+
+// The smallest direction that fits.
+fn direction(a: Point, b: Point) -> u8
+    ensures { λ r. ⌜ r ≡ dirOf a b ⌝ }
+{
+    let x = apart(a.x, b.x);
+    let y = apart(a.y, b.y);
+    let right = a.x <= b.x;
+    let left = b.x <= a.x;
+    let down = a.y <= b.y;
+    let up = b.y <= a.y;
+    let tall = x <= y;
+    let wide = y <= x;
+    if right & down & tall {
+        return 0;
+    }
+    if right & down & wide {
+        return 1;
+    }
+    if right & up & wide {
+        return 2;
+    }
+    if right & up & tall {
+        return 3;
+    }
+    if left & up & tall {
+        return 4;
+    }
+    if left & up & wide {
+        return 5;
+    }
+    if left & down & wide {
+        return 6;
+    }
+    7
+}
+
+fn slope_of(a: Point, b: Point) -> Slope
+    ensures { λ r. ⌜ r ≡ slopeOf a b ⌝ }
+{
+    let x = apart(a.x, b.x);
+    let y = apart(a.y, b.y);
+    Slope {
+        dir: direction(a, b),
+        major: larger(x, y),
+        minor: smaller(x, y),
+    }
+}
+
+// CURS's third byte: the dot address and EAD's top.
+fn third(e: u32, x: u16) -> u16
+    ensures { λ r. ⌜ r ≡ x % 16 * 16 + e / 65536 % 4 ⌝ }
+{
+    x % 16 * 16 + (e / 65536 % 4) as u16
+}
+
+fn dot_entries(op: Operation, p: u8, a: Point) -> [u16; 11]
+    ensures { λ r. ⌜ r ≡ dotEntries op p a ⌝ }
+{
+    let e = word_of(p, a.x, a.y as u32);
+    [
+        0x120 + op_number(op),
+        0x149,
+        (e % 256) as u16,
+        (e / 256 % 256) as u16,
+        third(e, a.x),
+        0x178,
+        0xFF,
+        0xFF,
+        0x14C,
+        0x02,
+        0x16C,
+    ]
+}
+
+fn line_entries(op: Operation, p: u8, a: Point, b: Point) -> [u16; 19]
+    ensures { λ r. ⌜ r ≡ lineEntries op p a b ⌝ }
+{
+    let e = word_of(p, a.x, a.y as u32);
+    let s = slope_of(a, b);
+    let n = s.major as u32;
+    let m = s.minor as u32;
+    let d = minus(2 * m, n);
+    let d2 = minus(2 * m, 2 * n);
+    [
+        0x120 + op_number(op),
+        0x149,
+        (e % 256) as u16,
+        (e / 256 % 256) as u16,
+        third(e, a.x),
+        0x178,
+        0xFF,
+        0xFF,
+        0x14C,
+        8 + s.dir as u16,
+        (n % 256) as u16,
+        (n / 256 % 256) as u16,
+        (d % 256) as u16,
+        (d / 256 % 256) as u16,
+        (d2 % 256) as u16,
+        (d2 / 256 % 256) as u16,
+        (2 * m % 256) as u16,
+        (2 * m / 256 % 256) as u16,
+        0x16C,
+    ]
+}
+
+fn rectangle_entries(op: Operation, p: u8, a: Point, w: u16, h: u16) -> [u16; 21]
+    ensures { λ r. ⌜ r ≡ rectangleEntries op p a w h ⌝ }
+{
+    let e = word_of(p, a.x, a.y as u32);
+    [
+        0x120 + op_number(op),
+        0x149,
+        (e % 256) as u16,
+        (e / 256 % 256) as u16,
+        third(e, a.x),
+        0x178,
+        0xFF,
+        0xFF,
+        0x14C,
+        0x40,
+        3,
+        0,
+        h % 256,
+        h / 256 % 256,
+        w % 256,
+        w / 256 % 256,
+        0xFF,
+        0x3F,
+        h % 256,
+        h / 256 % 256,
+        0x16C,
+    ]
+}
+
+fn wide(x: u8) -> u16
+    ensures { λ r. ⌜ r ≡ x ⌝ }
+{
+    x as u16
+}
+
+// A row of a glyph: the byte at i, 0 past the end.
+fn row(t: &[u8], i: usize) -> u16
+    ensures { λ r. ⌜ r ≡ getD (now (t .entry)) i 0 ⌝ }
+{
+    wide(records::byte_at(t, i))
+}
+
+// x - 1, and 0 for 0.
+fn less(x: u32) -> u32
+    ensures { λ r. ⌜ r ≡ x - 1 ⌝ }
+{
+    if x == 0 { 0 } else { x - 1 }
+}
+
+fn glyph_entries(t: &[u8], op: Operation, p: u8, a: Point, n: u8, g: u8) -> [u16; 21]
+    ensures { λ r. ⌜ r ≡ glyphEntries (now (t .entry)) op p a n g ⌝ }
+{
+    let e = word_of(p, a.x, a.y as u32 + less(8 * g as u32));
+    let k = 8 * n as usize;
+    [
+        0x120 + op_number(op),
+        0x146,
+        less(g as u32) as u16,
+        0x149,
+        (e % 256) as u16,
+        (e / 256 % 256) as u16,
+        third(e, a.x),
+        0x178,
+        row(t, k),
+        row(t, k + 1),
+        row(t, k + 2),
+        row(t, k + 3),
+        row(t, k + 4),
+        row(t, k + 5),
+        row(t, k + 6),
+        row(t, k + 7),
+        0x14C,
+        0x12,
+        7,
+        0,
+        0x168,
+    ]
+}
+
+fn least_of(a: Point, b: Point) -> Point
+    ensures { λ r. ⌜ r ≡ least a b ⌝ }
+{
+    Point {
+        x: smaller(a.x, b.x),
+        y: smaller(a.y, b.y),
+    }
+}
+
+fn greatest_of(a: Point, b: Point) -> Point
+    ensures { λ r. ⌜ r ≡ greatest a b ⌝ }
+{
+    Point {
+        x: larger(a.x, b.x),
+        y: larger(a.y, b.y),
+    }
+}
+
+// A rectangle's corners in order; a flat one as a line.
+fn plain_of(f: Figure) -> Figure
+    ensures { λ r. ⌜ r ≡ plain f ⌝ }
+{
+    match f {
+        Figure::Dot(a) => Figure::Dot(a),
+        Figure::Line(a, b) => Figure::Line(a, b),
+        Figure::Rectangle(a, b) => {
+            let from = least_of(a, b);
+            let to = greatest_of(a, b);
+            if (a.x == b.x) | (a.y == b.y) {
+                return Figure::Line(from, to);
+            }
+            Figure::Rectangle(from, to)
+        }
+        Figure::Glyph { at, number, factor } => Figure::Glyph {
+            at: at,
+            number: number,
+            factor: factor,
+        },
+    }
+}
+
+// How many entries a record takes.
+pub fn size_of(r: Record) -> u32
+    ensures { λ q. ⌜ q ≡ sizeOf r ⌝ }
+{
+    let figure = r.figure;
+    match plain_of(figure) {
+        Figure::Dot(_) => 11,
+        Figure::Line(_, _) => 19,
+        Figure::Rectangle(_, _) => 21,
+        Figure::Glyph {
+            at: _,
+            number: _,
+            factor: _,
+        } => 21,
+    }
+}
+
+// One entry, if there is room for it.
+fn store(out: &mut [u16], at: usize, x: u16)
+    ensures { λ _. ⌜ now (out .exit) ≡ set (now (out .entry)) at x ⌝ }
+{
+    if at < out.len() {
+        out[at] = x;
+    }
+}
+
+// The entries e go into out from at on, as far as there is room.
+pub fn put(out: &mut [u16], at: u32, e: &[u16])
+    ensures { λ _. ⌜ now (out .exit) ≡ placed (now (out .entry)) at (now (e .entry)) ⌝ }
+{
+    let mut i: usize = 0;
+    while i < e.len() {
+        store(out, at as usize + i, e[i]);
+        i += 1;
+    }
+}
+
+// The entries of a record go into out from at on, as far as there is room.
+pub fn put_record(out: &mut [u16], at: u32, t: &[u8], p: u8, r: Record)
+    ensures { λ _. ⌜ now (out .exit) ≡ placed (now (out .entry)) at (entriesOf (now (t .entry)) p r) ⌝ }
+{
+    let op = r.op;
+    let figure = r.figure;
+    match plain_of(figure) {
+        Figure::Dot(a) => put(out, at, &dot_entries(op, p, a)),
+        Figure::Line(a, b) => put(out, at, &line_entries(op, p, a, b)),
+        Figure::Rectangle(a, b) => put(
+            out,
+            at,
+            &rectangle_entries(op, p, a, apart(a.x, b.x), apart(a.y, b.y)),
+        ),
+        Figure::Glyph {
+            at: a,
+            number,
+            factor,
+        } => put(out, at, &glyph_entries(t, op, p, a, number, factor)),
+    }
+}

@@ -1,0 +1,7 @@
+pub mod RunLaws
+pub mod WaitLaws
+pub mod SendLaws
+pub mod EntryLaws
+pub mod GroupLaws
+pub mod DrawLaws
+pub mod CharacterLaws
