@@ -76,7 +76,7 @@ abbrev pub minus14 : ℕ → ℕ → ℕ
 minus14 a b = (a + 16384 - b) % 16384
 
 -- "PITCH P; .. WDAT word with the operation, .. CURS (3 bytes), PRAM 8 with FF FF, FIGS, FIGD"; "line L with the smallest fitting DIR,
--- DC N, D 2m - N, D2 2m - 2N, D1 2m": of pitch 1, with SET, from (x, y). (That DIR is the smallest that fits is the translator's matter.)
+-- DC N, D 2m - N, D2 2m - 2N, D1 2m": of pitch 1, with SET, from (x, y). (Which DIR is the smallest that fits is the translator's `slopeOf`.)
 abbrev pub line : ℕ → ℕ → ℕ → ℕ → ℕ → List ℕ
 line x y dir n m =
     0x147 ∷ 1 ∷ 0x123 ∷ 0x149 ∷ y ∷ 0 ∷ (16 * x) ∷ 0x178 ∷ 0xFF ∷ 0xFF ∷ 0x14C ∷ (8 + dir)
