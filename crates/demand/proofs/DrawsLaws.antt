@@ -1,9 +1,9 @@
 -- A figure that FIGD draws, from its first entry to its last dot: if the walk of its registers changes a shape of the plane once,
 -- as geometry shows of dots, lines and rectangles, then its entries are accepted and change just that shape. A dot is the first case.
-use mathlib.Core.Path.{_≡_, refl, sym, ap, subst, _∙_}
+use mathlib.Core.Path.{_≡_, refl, sym, subst}
 use mathlib.Core.Bool.{true}
 use mathlib.Core.List.{List, [], _∷_, _++_}
-use Prim.Native.Nat.{ℕ, suc, _+_, _*_, _%_, _≤_, _<_}
+use Prim.Native.Nat.{ℕ, suc, _*_, _%_, _≤_, _<_}
 use native.Mathlib.Omega.{arith}
 use lib.ListN.{length, set}
 use Rattle.dots.specs.declared.Operation.{Operation}
@@ -19,7 +19,7 @@ use Rattle.entries.specs.Entries.{headEntries, dotEntries}
 use Rattle.registers.specs.declared.Drawing.{Drawing}
 use Rattle.registers.specs.declared.Registers.{Registers}
 use Rattle.registers.specs.Size.{dotsOf}
-use Rattle.registers.specs.State.{State, state}
+use Rattle.registers.specs.State.{State}
 use Rattle.figures.specs.Figure.{patternAt}
 use Rattle.units.specs.Run.{lengthB}
 use Rattle.sending.proofs.WaitLaws.{Waiting}

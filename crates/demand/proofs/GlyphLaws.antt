@@ -2,7 +2,7 @@
 -- rows to RA8 to RA15, and GCHRD's 8g rows of 8g dots are the glyph's square with the glyph's bits.
 use mathlib.Core.Path.{_≡_, refl, sym, ap, ap₂, subst, _∙_}
 use mathlib.Core.Bool.{false}
-use mathlib.Core.List.{List, [], _∷_, _++_}
+use mathlib.Core.List.{List, _∷_, _++_}
 use Prim.Native.Nat.{ℕ, zero, suc, _+_, _-_, _*_, _/_, _%_, _≤_, _<_}
 use native.Mathlib.Nat.{mul-le-mul-left}
 use native.Mathlib.Omega.{arith}
@@ -10,11 +10,10 @@ use lib.ListN.{length, getD, take, drop, length-append, List·getD-append}
 use lib.Seq.{sets, sets-eq, length-take-le, getD-append-add}
 use Rattle.dots.specs.declared.Operation.{Operation}
 use Rattle.dots.specs.declared.Cursor.{Cursor}
-use Rattle.dots.specs.Bit.{bit}
 use Rattle.dots.specs.Dot.{cursorAt}
 use Rattle.dots.proofs.BitLaws.{bit-lt}
 use Rattle.dots.proofs.DotLaws.{address}
-use Rattle.geometry.specs.Plane.{InPlane, squareOn, glyphInk}
+use Rattle.geometry.specs.Plane.{squareOn, glyphInk}
 use Rattle.geometry.proofs.WalkLaws.{Sized}
 use Rattle.geometry.proofs.CycleLaws.{cycles, Drawn}
 use Rattle.geometry.proofs.FigureLaws.{spread}
@@ -28,10 +27,9 @@ use Rattle.registers.specs.Fresh.{emptyBuffer}
 use Rattle.registers.specs.Put.{putZoom}
 use Rattle.registers.specs.Size as size
 use Rattle.registers.specs.Size.{factorOf, columnsOf}
-use Rattle.registers.specs.State.{State, state}
+use Rattle.registers.specs.State.{State}
 use Rattle.figures.specs.Character.{characterPattern}
-use Rattle.sending.specs.Send.{fullBudget}
-use Rattle.sending.proofs.SendLaws.{Leads, leads-then, Acts, acts-then}
+use Rattle.sending.proofs.SendLaws.{leads-then, Acts, acts-then}
 use Rattle.sending.proofs.EntryLaws.{progress}
 use Rattle.sending.proofs.GroupLaws.{acts-zoom, acts-rows, acts-figs, sends-dc}
 use Rattle.sending.proofs.CharacterLaws.{gchrd, finished, gchrd-draws, gchrd-waits}

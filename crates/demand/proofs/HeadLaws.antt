@@ -1,8 +1,8 @@
 -- What every figure's entries begin with: WDAT sets the operation, CURS goes to the figure's first dot, and PRAM sets a pattern of
 -- ones. After them nothing of the controller's earlier mask, address, operation or pattern is left.
-use mathlib.Core.Path.{_≡_, refl, sym, ap, ap₂, subst, _∙_}
-use mathlib.Core.List.{List, [], _∷_, _++_}
-use Prim.Native.Nat.{ℕ, _+_, _*_, _/_, _%_, _^_, _≤_, _<_}
+use mathlib.Core.Path.{_≡_, refl, ap, subst}
+use mathlib.Core.List.{List, [], _∷_}
+use Prim.Native.Nat.{ℕ, _+_, _*_, _/_, _%_, _^_, _≤_}
 use native.Mathlib.Nat.{mul-left-comm}
 use native.Mathlib.Omega.{arith}
 use lib.Dec.{eqb, eqb→eq}

@@ -1,32 +1,26 @@
 -- Entries that set registers, as changes of registers: the command bytes of the translation, and one parameter byte of each of
 -- its commands. At a known command byte, and at a known command in progress, the definitions compute.
-use mathlib.Core.Path.{_≡_, refl, sym, ap, subst, _∙_}
-use mathlib.Core.Bool.{Bool, true, false, cond}
-use mathlib.Core.List.{List, [], _∷_, _++_}
-use Prim.Native.Nat.{ℕ, _+_, _*_, _/_, _%_, _≤_, _<_}
+use mathlib.Core.Path.{_≡_, refl, ap, _∙_}
+use mathlib.Core.Bool.{Bool, cond}
+use mathlib.Core.List.{List, [], _∷_}
+use Prim.Native.Nat.{ℕ, _+_, _<_}
 use native.Mathlib.Omega.{arith}
-use lib.Dec.{eqb, ltb}
-use lib.ListN.{length, set, length-set}
+use lib.ListN.{set}
 use borrow.Author.Tests.{lt-ltb}
-use Rattle.dots.specs.declared.Cursor.{Cursor}
 use Rattle.dots.specs.declared.Operation.{Operation}
 use Rattle.dots.specs.declared.Operation.the-variants.{Replace, Complement, Reset, Set}
 use Rattle.registers.specs.declared.Command.{Command}
 use Rattle.registers.specs.declared.Command.the-variants.{Zoom, Curs, Pram, Pitch, Figs, Wdat}
 use Rattle.registers.specs.declared.Transfer.the-variants.{Word}
-use Rattle.registers.specs.declared.Drawing.{Drawing}
-use Rattle.registers.specs.declared.Video.{Video}
 use Rattle.registers.specs.declared.Progress.{Progress}
 use Rattle.registers.specs.declared.Registers.{Registers}
-use Rattle.registers.specs.Fresh.{freshDrawing, emptyBuffer}
-use Rattle.registers.specs.Sound.{allBelow}
+use Rattle.registers.specs.Fresh.{freshDrawing}
 use Rattle.registers.specs.Put.{putCursor, putPitch, putDrawing, putOp, putRam, putVideo, putProgress, putZoom}
-use Rattle.registers.specs.State.{State, state}
+use Rattle.registers.specs.State.{state}
 use Rattle.commands.specs.Decode.{commandOf, familyOf}
 use Rattle.processor.specs.Command.{operationOf, commandTaken}
 use Rattle.processor.specs.Parameter.{cursBy, figsBy, zoomBy}
 use Rattle.processor.specs.Entry.{counted, parameterBy, parameterTaken, entryTaken}
-use Rattle.geometry.proofs.TestLaws.{cases}
 use Rattle.sending.proofs.WaitLaws.{Waiting, drained, takenBy}
 use Rattle.sending.proofs.SendLaws.{Acts, acts-one}
 
