@@ -64,7 +64,9 @@ module _ (p h : ℕ) (sized : Sized p h) (s : State) (held : Held p h s) (op : O
   figd-law figs f i n on sets all few geometry =
       record {
         after = ended (figd (drawingSet base f i)) (s .mem) n;
-        leads = leads-count (leads-then (head .leads (s .mem) (held .lawful)) (leads-then (tail .leads (s .mem) (held .lawful)) (figd-draws (tail .waits) n all (s .mem) (held .lawful) (omega arith)))) (omega arith);
+        leads =
+            leads-count (leads-then (head .leads (s .mem) (held .lawful)) (leads-then (tail .leads (s .mem) (held .lawful))
+            (figd-draws (tail .waits) n all (s .mem) (held .lawful) (omega arith)))) (omega arith);
         waits = figd-waits (tail .waits) n all (s .mem);
         pitch = held .pitch;
         drawn = subst (λ (k : ℕ). Drawn p h op on solid (s .mem) (cycles op ones (walk (stepAt f) k (cursorAt (address p (a .x) (a .y)))) (suc n) (s .mem))) (sym (held .pitch))

@@ -100,8 +100,8 @@ module _ (p h : ℕ) (sized : Sized p h) (s : State) (held : Held p h s) (op : O
       let wdat = acts-wdat (held .waits) op in
       let zoom = acts-zoom (wdat .waits) (g - 1) (omega arith) in
       let curs = acts-cursor p h (sized .area) (foot a g) (record { column = omega arith; row = omega arith }) (zoom .waits) in
-      let rows = acts-rows (curs .waits) (getD t (8 * n) 0) (getD t (8 * n + 1) 0) (getD t (8 * n + 2) 0) (getD t (8 * n + 3) 0) (getD t (8 * n + 4) 0) (getD t (8 * n + 5) 0) (getD t (8 * n + 6) 0) (getD t (8 * n + 7) 0)
-      (bytes _) (bytes _) (bytes _) (bytes _) (bytes _) (bytes _) (bytes _) (bytes _) in
+      let rows = acts-rows (curs .waits) _ _ _ _ _ _ _ _ (bytes (8 * n)) (bytes (8 * n + 1)) (bytes (8 * n + 2)) (bytes (8 * n + 3))
+      (bytes (8 * n + 4)) (bytes (8 * n + 5)) (bytes (8 * n + 6)) (bytes (8 * n + 7)) in
       let figs = acts-figs (rows .waits) 0x12 2 2 (omega arith) refl refl in
       acts-then wdat (acts-then zoom (acts-then curs (acts-then rows (acts-then figs (sends-dc (figs .waits) 7 (omega arith) refl)))))
 
@@ -147,7 +147,9 @@ module _ (p h : ℕ) (sized : Sized p h) (s : State) (held : Held p h s) (op : O
   unfolding glyphEntries
   glyph-law = record {
     after = finished (gchrd q) (s .mem) some last;
-    leads = leads-count (leads-then (acts .leads (s .mem) (held .lawful)) (gchrd-draws (acts .waits) some last all (s .mem) (held .lawful) (omega (arith, few-dots g top)))) (omega (arith, some-dots g pos));
+    leads =
+        leads-count (leads-then (acts .leads (s .mem) (held .lawful)) (gchrd-draws (acts .waits) some last all (s .mem) (held .lawful) (omega (arith, few-dots g top))))
+        (omega (arith, some-dots g pos));
     waits = gchrd-waits (acts .waits) some last all (s .mem);
     pitch = held .pitch;
     drawn = subst (Drawn p h op (squareOn (a .x) (a .y) g) (glyphInk t n (a .x) (a .y) g) (s .mem)) (sym leaves) is-glyph;

@@ -118,6 +118,7 @@ module _ (p h : ℕ) (sized : Sized p h) (t : List ℕ) (bytes : (i : ℕ) → g
         leads = leads-then (one .leads) (rest .leads);
         held = rest .held;
         long = rest .long ∙ one .long;
-        dots = λ x y v. rest .dots x y v ∙ figures-under l (λ u w. dot p u w (one .after .mem)) (figureMade t (r .op) (r .figure) (λ u w. dot p u w (s .mem))) x y (one .dots x y v);
+        dots = λ x y v. rest .dots x y v
+            ∙ figures-under l (λ u w. dot p u w (one .after .mem)) (figureMade t (r .op) (r .figure) (λ u w. dot p u w (s .mem))) x y (one .dots x y v);
         words = λ j k. rest .words j k ∙ one .words j k;
       }

@@ -3,12 +3,10 @@
 use mathlib.Core.Path.{_≡_, refl, ap, _∙_}
 use mathlib.Core.Bool.{Bool, cond}
 use mathlib.Core.List.{List, [], _∷_}
-use Prim.Native.Nat.{ℕ, _+_, _<_}
+use Prim.Native.Nat.{ℕ, zero, suc, _+_, _<_}
 use native.Mathlib.Omega.{arith}
 use lib.ListN.{set}
 use borrow.Author.Tests.{lt-ltb}
-use Rattle.dots.specs.declared.Operation.{Operation}
-use Rattle.dots.specs.declared.Operation.the-variants.{Replace, Complement, Reset, Set}
 use Rattle.registers.specs.declared.Command.{Command}
 use Rattle.registers.specs.declared.Command.the-variants.{Zoom, Curs, Pram, Pitch, Figs, Wdat}
 use Rattle.registers.specs.declared.Transfer.the-variants.{Word}
@@ -29,13 +27,6 @@ abbrev pub progress : Command → ℕ → Progress
 progress c i = record { command = c; next = i; low = 0 }
 
 -- ---- command bytes
--- "0 REPLACE", "1 COMPLEMENT", "2 RESET", "3 SET"
-abbrev pub operationNumber : Operation → ℕ
-operationNumber Replace = 0
-operationNumber Complement = 1
-operationNumber Reset = 2
-operationNumber Set = 3
-
 module _ {r : Registers} (v : Waiting r) where
   pub pitch-command : Acts r (0x147 ∷ []) (putProgress (drained r) (progress Pitch 0))
   unfolding entryTaken commandTaken commandOf
@@ -58,13 +49,14 @@ module _ {r : Registers} (v : Waiting r) where
   unfolding entryTaken commandTaken commandOf
   figs-command = acts-one v (omega arith) (λ q. omega arith) (λ m. refl) refl refl refl
 
-  -- WDAT word, with the operation
-  pub wdat-command : (op : Operation) → Acts r ((0x120 + operationNumber op) ∷ []) (putProgress (putOp (drained r) op) (progress (Wdat Word) 0))
+  -- WDAT word, with the operation's number
+  pub wdat-command : (n : ℕ) → n < 4 → Acts r ((0x120 + n) ∷ []) (putProgress (putOp (drained r) (operationOf n)) (progress (Wdat Word) 0))
   unfolding entryTaken commandTaken commandOf familyOf operationOf
-  wdat-command Replace = acts-one v (omega arith) (λ q. omega arith) (λ m. refl) refl refl refl
-  wdat-command Complement = acts-one v (omega arith) (λ q. omega arith) (λ m. refl) refl refl refl
-  wdat-command Reset = acts-one v (omega arith) (λ q. omega arith) (λ m. refl) refl refl refl
-  wdat-command Set = acts-one v (omega arith) (λ q. omega arith) (λ m. refl) refl refl refl
+  wdat-command zero h = acts-one v (omega arith) (λ q. omega arith) (λ m. refl) refl refl refl
+  wdat-command (suc zero) h = acts-one v (omega arith) (λ q. omega arith) (λ m. refl) refl refl refl
+  wdat-command (suc (suc zero)) h = acts-one v (omega arith) (λ q. omega arith) (λ m. refl) refl refl refl
+  wdat-command (suc (suc (suc zero))) h = acts-one v (omega arith) (λ q. omega arith) (λ m. refl) refl refl refl
+  wdat-command (suc (suc (suc (suc n)))) h = absurd (omega arith)
 
 -- ---- parameter bytes
 -- one parameter of the command c
@@ -82,8 +74,11 @@ module _ {r : Registers} (v : Waiting r) (b : ℕ) (byte : b < 256) (i : ℕ) (f
   pub pram-byte : r .progress ≡ progress Pram i → Acts r (b ∷ []) (putProgress (putRam (drained r) (set (r .ram) i b)) (progress Pram (i + 1)))
   pram-byte e =
       acts-one v (omega arith) (λ q. omega arith)
-      (λ m. as-parameter Pram e m ∙ ap (λ (t : Bool). state (cond t (putProgress (putRam (drained r) (set (r .ram) i b)) (progress Pram (i + 1))) (putProgress (drained r) (progress Pram (i + 1)))) m) (lt-ltb i 16 few))
+      (λ m. as-parameter Pram e m ∙ ap (λ (t : Bool). state (cond t (putRam next (set (r .ram) i b)) next) m) (lt-ltb i 16 few))
       refl refl refl
+    where
+      next : Registers
+      next = putProgress (drained r) (progress Pram (i + 1))
 
   pub figs-byte : r .progress ≡ progress Figs i → Acts r (b ∷ []) (putProgress (putDrawing (drained r) (figsBy i b (r .drawing))) (progress Figs (i + 1)))
   figs-byte e = acts-one v (omega arith) (λ q. omega arith) (as-parameter Figs e) refl refl refl
