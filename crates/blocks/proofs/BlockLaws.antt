@@ -1,17 +1,16 @@
 -- The turns of the loops over a block's words and bytes and over the blocks: what is left to do, with what is done, is the whole. True because each
 -- definition takes one step where the loop takes one turn.
-use mathlib.Core.Path.{_≡_, refl}
+use mathlib.Core.Path.{_≡_, refl, sym, ap, _∙_}
 use mathlib.Core.Bool.{Bool, true, false, cond, _&&_}
 use mathlib.Core.List.{List}
 use Prim.Native.Nat.{ℕ, zero, suc, _+_, _-_, _*_, _%_, _<_, _≤_}
 use native.Mathlib.Omega.{arith}
 use mir.Val.{boolByte}
-use lib.Dec.{eqb}
 use borrow.Author.Tests.{eq-eqb, ne-eqb, lt-leb}
 use Rattle.records.specs.Raw.{byteAt, wordAt}
-use Rattle.blocks.specs.declared.Answer.{Answer}
-use Rattle.blocks.specs.Answer.{answer, orElse}
-use Rattle.blocks.specs.Block.{sumWords, checkOf, countOf, numberB, countB, lastB, zerosB, spareB, unusedB, headB, blockRefusal, blocksFrom, blocksChecked}
+use Rattle.blocks.specs.Answer.{answer, firstFrom}
+use Rattle.blocks.specs.Block.{sumWords, checkOf, countOf, numberB, countB, lastB, zerosB, spareB, unusedB, headB, blockRefusal, blockAnswer, blocksChecked}
+use Rattle.blocks.proofs.AnswerLaws.{first-start, first-stop, first-go-on, first-end}
 
 -- ---- the check
 module _ (s : List ℕ) (b : ℕ) where
@@ -73,18 +72,16 @@ true-after false = refl
 
 -- ---- the blocks
 module _ (s : List ℕ) (n b : ℕ) where
-  pub blocks-start : blocksChecked s n ≡ blocksFrom s n (n - 0) 0
+  pub blocks-start : blocksChecked s n ≡ firstFrom (blockAnswer s n) (n - 0) 0
   unfolding blocksChecked
-  blocks-start = let e : n - 0 ≡ n = omega arith in rw e
+  blocks-start = first-start (blockAnswer s n) n
 
-  pub blocks-stop : {x : ℕ} → b < n → x ≡ blockRefusal s n b → (x ≡ 0 → ⊥) → answer x b 0 ≡ blocksFrom s n (n - b) b
-  unfolding blocksFrom
-  blocks-stop h p z = let e : n - b ≡ suc (n - (b + 1)) = omega arith in rw (e, ← p, ne-eqb _ 0 z)
+  pub blocks-stop : {x : ℕ} → b < n → x ≡ blockRefusal s n b → (x ≡ 0 → ⊥) → answer x b 0 ≡ firstFrom (blockAnswer s n) (n - b) b
+  blocks-stop h p z = first-stop (blockAnswer s n) n b h (ap (λ (y : ℕ). answer y b 0) p) z
 
-  pub blocks-go-on : {x : ℕ} → b < n → x ≡ blockRefusal s n b → x ≡ 0 → blocksFrom s n (n - b) b ≡ blocksFrom s n (n - (b + 1)) (b + 1)
-  unfolding blocksFrom
-  blocks-go-on h p z = let e : n - b ≡ suc (n - (b + 1)) = omega arith in rw (e, ← p, eq-eqb _ 0 z)
+  pub blocks-go-on : {x : ℕ} → b < n → x ≡ blockRefusal s n b → x ≡ 0
+      → firstFrom (blockAnswer s n) (n - b) b ≡ firstFrom (blockAnswer s n) (n - (b + 1)) (b + 1)
+  blocks-go-on h p z = first-go-on (blockAnswer s n) n b h (sym p ∙ z)
 
-  pub blocks-end : n ≤ b → answer 0 0 0 ≡ blocksFrom s n (n - b) b
-  unfolding blocksFrom
-  blocks-end h = let e : n - b ≡ zero = omega arith in rw e
+  pub blocks-end : n ≤ b → answer 0 0 0 ≡ firstFrom (blockAnswer s n) (n - b) b
+  blocks-end h = first-end (blockAnswer s n) n b h

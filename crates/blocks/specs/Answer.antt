@@ -1,5 +1,5 @@
 -- 01, Numbers of refusal: a number and two values; "Checks run in table order".
-use Prim.Native.Nat.{ℕ}
+use Prim.Native.Nat.{ℕ, zero, suc, _+_}
 use mathlib.Core.Bool.{cond}
 use lib.Dec.{eqb}
 use Rattle.blocks.specs.declared.Answer.{Answer}
@@ -10,3 +10,8 @@ answer n a b = record { number = n; first = a; second = b }
 -- the first answer if it is a refusal, else the second ("Success is number 0")
 abbrev pub orElse : Answer → Answer → Answer
 orElse a b = cond (eqb (a .number) 0) b a
+
+-- the first refusal among f answers from place k on, or 0, 0, 0
+unfoldable pub firstFrom : (ℕ → Answer) → ℕ → ℕ → Answer
+firstFrom a zero k = answer 0 0 0
+firstFrom a (suc f) k = orElse (a k) (firstFrom a f (k + 1))

@@ -1,11 +1,11 @@
 -- 01, Drawing sheets and Numbers of refusal: a block of 512 bytes, and 14 and 15 "block by block".
 use Prim.Native.Nat.{ℕ, zero, suc, _+_, _-_, _*_, _%_}
 use mathlib.Core.List.{List}
-use mathlib.Core.Bool.{Bool, true, false, cond, _&&_}
+use mathlib.Core.Bool.{Bool, true, cond, _&&_}
 use lib.Dec.{eqb, leb}
 use Rattle.records.specs.Raw.{byteAt, wordAt}
 use Rattle.blocks.specs.declared.Answer.{Answer}
-use Rattle.blocks.specs.Answer.{answer, orElse}
+use Rattle.blocks.specs.Answer.{answer, firstFrom}
 
 -- the sum of n words
 unfoldable pub sumWords : ℕ → List ℕ → ℕ → ℕ
@@ -57,10 +57,10 @@ headB s n b = numberB s b && countB s b && lastB s n b && spareB s b && unusedB 
 unfoldable pub blockRefusal : List ℕ → ℕ → ℕ → ℕ
 blockRefusal s n b = cond (checkB s b) (cond (headB s n b) 0 15) 14
 
--- "14 and 15 block by block": f blocks from b on, of the n; they return "block, 0"
-unfoldable pub blocksFrom : List ℕ → ℕ → ℕ → ℕ → Answer
-blocksFrom s n zero b = answer 0 0 0
-blocksFrom s n (suc f) b = orElse (answer (blockRefusal s n b) b 0) (blocksFrom s n f (b + 1))
+-- "14, 15 | .. | block, 0"
+abbrev pub blockAnswer : List ℕ → ℕ → ℕ → Answer
+blockAnswer s n b = answer (blockRefusal s n b) b 0
 
+-- "14 and 15 block by block"
 unfoldable pub blocksChecked : List ℕ → ℕ → Answer
-blocksChecked s n = blocksFrom s n n 0
+blocksChecked s n = firstFrom (blockAnswer s n) n 0

@@ -1,12 +1,12 @@
 -- Entries put one after the other make one run of entries, whatever their number; what stands before and behind them stays; and a record's entries are as many
 -- as `sizeOf` says. True because `placed` sets one place at a time, and each figure's entries are a list of known length.
-use mathlib.Core.Path.{_≡_, refl, sym, ap, _∙_}
+use mathlib.Core.Path.{_≡_, refl}
 use mathlib.Core.List.{List, [], _∷_, _++_}
-use Prim.Native.Nat.{ℕ, zero, suc, _+_, _-_, _*_, _<_, _≤_}
+use Prim.Native.Nat.{ℕ, suc, _+_, _<_, _≤_}
 use native.Mathlib.Omega.{arith}
 use native.Mathlib.Numerals.{add-one}
 use lib.ListN.{length, getD, set, take, drop, drop-of-length-le}
-use lib.Seq.{sets, drop-cons, length-sets, sets-eq}
+use lib.Seq.{drop-cons, length-sets, sets-eq}
 use Rattle.dots.specs.declared.Operation.{Operation}
 use Rattle.records.specs.declared.Record.{Record}
 use Rattle.records.specs.declared.Figure.{Figure}

@@ -1,8 +1,8 @@
 -- 01, Drawing sheets, Translation: the entries for one figure. "16-bit entries, commands are the byte + 256".
-use Prim.Native.Nat.{ℕ, zero, suc, _+_, _-_, _*_, _/_, _%_, min, max}
+use Prim.Native.Nat.{ℕ, _+_, _-_, _*_, _/_, _%_, min, max}
 use mathlib.Core.List.{List, [], _∷_, _++_}
-use mathlib.Core.Bool.{Bool, true, false, cond, not, _&&_, _||_}
-use lib.Dec.{eqb, ltb, leb}
+use mathlib.Core.Bool.{Bool, false, cond, _&&_, _||_}
+use lib.Dec.{eqb, leb}
 use lib.ListN.{getD}
 use lib.Seq.{sets}
 use Rattle.dots.specs.declared.Operation.{Operation}

@@ -15,8 +15,11 @@ use Rattle.registers.specs.Put.{putCursor, putWork}
 use Rattle.registers.specs.State.{State, state}
 
 -- "dot k uses bit k mod 16 of the pattern RA8 + 256·RA9 for all masked bits"
+unfoldable pub patternOf : ℕ → ℕ → ℕ → ℕ
+patternOf low high k = bit (k % 16) (low + 256 * high) * 65535
+
 unfoldable pub patternAt : List ℕ → ℕ → ℕ
-patternAt ram k = bit (k % 16) (getD ram 8 0 + 256 * getD ram 9 0) * 65535
+patternAt ram k = patternOf (getD ram 8 0) (getD ram 9 0) k
 
 -- "D is two's complement": of 14 bits the highest is the sign
 abbrev pub negative : ℕ → Bool

@@ -26,7 +26,7 @@ use Rattle.registers.specs.State.{State, state}
 use Rattle.registers.specs.Typed.{Typed, Words}
 use Rattle.laws.proofs.SoundLaws.{DrawingFits, BufferFits, Inside, Suits, sound-parts, sound-whole, fresh-sound, fresh-typed}
 
--- the mask with which a character's row started is a `u16` too
+-- the mask with which a character's row started is a `u16` as well (`Typed` says it of the cursor's only); the next row starts from it
 abbrev pub StartFits : Work → Type 0
 StartFits Idle = Unit {0}
 StartFits (Figure k d) = Unit {0}

@@ -29,9 +29,9 @@ use Rattle.registers.specs.State.{State, state}
 use Rattle.registers.proofs.BoolLaws.{and-left, and-right}
 use Rattle.commands.specs.Decode.{within, commandOf}
 use Rattle.processor.specs.Command.{begun, resetDone, turned, cursorBytes, penBytes, operationOf, figureBegun, characterBegun, readBegun, commandBy, commandTaken}
-use Rattle.processor.specs.Parameter.{cursBy, maskBy, figsBy, syncBy, ccharBy, zoomBy}
+use Rattle.processor.specs.Parameter.{cursBy, maskBy, figsBy, ramBy, pitchBy, syncBy, ccharBy, zoomBy}
 use Rattle.processor.specs.Wdat.{halfB, wdatPattern, wdatProgress, setDone, wdatTaken}
-use Rattle.processor.specs.Entry.{counted, parameterBy, parameterTaken, entryTaken}
+use Rattle.processor.specs.Entry.{nextOf, counted, parameterBy, parameterTaken, entryTaken}
 use Rattle.laws.proofs.BranchLaws.{either, cases}
 use Rattle.laws.proofs.SoundLaws.{DrawingFits}
 use Rattle.laws.proofs.KeptLaws.{Queue, Lawful, Whole, idle, cursor-kept, plain-kept, drawing-kept, ram-kept, video-kept, pen-kept, progress-kept, work-kept, cycle-kept}
@@ -218,6 +218,7 @@ module _ (n : ℕ) (r : Registers) (m : List ℕ) (w : Whole n (state r m)) wher
 
   module _ (e : r .work ≡ Idle) (i v : ℕ) (byte : v < 256) where
     parameter-by : (c : Command) → Whole n (parameterBy c i v r m)
+    unfolding ramBy pitchBy
     parameter-by Nothing = w
     parameter-by Reset = left (video-kept r (w .regs) e (syncBy i v (r .video)))
     parameter-by Vsync = w
@@ -239,7 +240,7 @@ module _ (n : ℕ) (r : Registers) (m : List ℕ) (w : Whole n (state r m)) wher
     parameter-by Unknown = w
 
 pub parameter-kept : (n v : ℕ) (s : State) → Whole n s → s .regs .work ≡ Idle → v < 256 → Whole n (parameterTaken v s)
-unfolding parameterTaken
+unfolding parameterTaken nextOf
 parameter-kept n v s w e byte =
     let p = s .regs .progress in
     let few : counted p .next ≤ 16 = cases (λ (k : ℕ). k ≤ 16) (ltb (p .next) 16) (λ t. omega (arith, ltb-true (p .next) 16 t)) (λ t. omega arith) in

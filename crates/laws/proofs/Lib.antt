@@ -7,3 +7,5 @@ pub mod KeptFigureLaws
 pub mod KeptUnitLaws
 pub mod KeptPortLaws
 pub mod RunLaws
+pub mod OnlyLaws
+pub mod BenchSheet

@@ -1,6 +1,6 @@
 -- A run does what it says. It leaves what as many steps of the definition make as it counts, never more than its budget; it stops
 -- with its budget spent, or where no further unit applies; and two runs are one run of the sum. By induction on the budget.
-use mathlib.Core.Path.{_≡_, refl, sym, ap, ap₂, _∙_}
+use mathlib.Core.Path.{_≡_, refl, sym, ap, ap₂, subst, _∙_}
 use mathlib.Core.Bool.{Bool, true, false, cond}
 use Prim.Native.Nat.{ℕ, zero, suc, _+_, _≤_, _<_}
 use native.Mathlib.Omega.{arith}
@@ -30,17 +30,46 @@ pub record Reason (y : ℕ) : Type 0 where
   pub not-1 : y ≡ 1 → ⊥
 
 reason-by : (w : Work) (m : Mode) (b : Buffer) → Reason (reasonBy w m b)
-reason-by Idle Write b =
-    either Reason (eqb (b .count) 0) (record { few = omega arith; not-1 = omega arith }) (record { few = omega arith; not-1 = omega arith })
-reason-by Idle Read b = record { few = omega arith; not-1 = omega arith }
-reason-by (Figure k d) m b = record { few = omega arith; not-1 = omega arith }
-reason-by (Character row column start) m b = record { few = omega arith; not-1 = omega arith }
-reason-by (Reading i t) m b =
-    either Reason (roomB t b) (record { few = omega arith; not-1 = omega arith }) (record { few = omega arith; not-1 = omega arith })
+reason-by Idle Write b = either Reason (eqb (b .count) 0) (omega arith) (omega arith)
+reason-by Idle Read b = omega arith
+reason-by (Figure k d) m b = omega arith
+reason-by (Character row column start) m b = omega arith
+reason-by (Reading i t) m b = either Reason (roomB t b) (omega arith) (omega arith)
 
 pub reason-kinds : (r : Registers) → Reason (reasonOf r)
 unfolding reasonOf
 reason-kinds r = reason-by (r .work) (r .mode) (r .buffer)
+
+-- ---- units
+
+pub units-add : (a b : ℕ) (s : State) → unitsDone (a + b) s ≡ unitsDone b (unitsDone a s)
+unfolding unitsDone
+units-add zero b s = let e : 0 + b ≡ b = omega arith in ap (λ (n : ℕ). unitsDone n s) e
+units-add (suc a) b s =
+    let e : suc a + b ≡ suc (a + b) = omega arith in
+    ap (λ (n : ℕ). unitsDone n s) e ∙ units-add a b (unitDone s)
+
+-- where none applies, a unit changes nothing
+fetch-idle : (m : Mode) (s : State) → (waiting m (s .regs .buffer) ≡ 0 → ⊥) → fetchBy m (s .regs .buffer .count) s ≡ s
+fetch-idle Write s n =
+    cases (λ (x : State). x ≡ s) (eqb (s .regs .buffer .count) 0) (λ t. refl) (λ t. absurd (n (rw t)))
+fetch-idle Read s n = refl
+
+idle-by : (w : Work) (s : State) → (reasonBy w (s .regs .mode) (s .regs .buffer) ≡ 0 → ⊥) → unitBy w s ≡ s
+unfolding readUnit
+idle-by Idle s n = fetch-idle (s .regs .mode) s n
+idle-by (Figure k d) s n = absurd (n refl)
+idle-by (Character row column start) s n = absurd (n refl)
+idle-by (Reading i t) s n = cases (λ (x : State). x ≡ s) (roomB t (s .regs .buffer)) (λ u. absurd (n (rw u))) (λ u. refl)
+
+pub unit-idle : (s : State) → (reasonOf (s .regs) ≡ 0 → ⊥) → unitDone s ≡ s
+unfolding reasonOf unitDone
+unit-idle s n = idle-by (s .regs .work) s n
+
+units-idle : (k : ℕ) (s : State) → (reasonOf (s .regs) ≡ 0 → ⊥) → unitsDone k s ≡ s
+unfolding unitsDone
+units-idle zero s n = refl
+units-idle (suc k) s n = ap (unitsDone k) (unit-idle s n) ∙ units-idle k s n
 
 -- ---- one run
 
@@ -104,29 +133,34 @@ run-from-counts budget s =
     let e : t .done ≡ runFrom budget 0 s .ran .count = omega (arith, t .count) in
     t .left ∙ ap (λ (n : ℕ). unitsDone n s) e
 
--- each unit done was one that applied
-pub run-from-busy : (budget : ℕ) (s : State) (i : ℕ) → i < runFrom budget 0 s .ran .count → reasonOf (unitsDone i s .regs) ≡ 0
-run-from-busy budget s i h = let t = told budget 0 s in t .busy i (omega (arith, t .count))
-
--- "it says which, the first in this order": the budget is spent ..
-pub run-from-spent : (budget : ℕ) (s : State) → runFrom budget 0 s .ran .count ≡ budget → runFrom budget 0 s .ran .why ≡ 1
-run-from-spent budget s e = let t = told budget 0 s in t .spent (omega (arith, t .count))
-
--- .. or the registers left say why no unit applies
+-- the registers left say why no further unit applies: 2 or 3
 pub record Stopped (o : Outcome) : Type 0 where
   pub why : o .ran .why ≡ reasonOf (o .ran .regs)
   pub two : 2 ≤ o .ran .why
   pub three : o .ran .why ≤ 3
 
-pub run-from-stopped : (budget : ℕ) (s : State) → runFrom budget 0 s .ran .count < budget → Stopped (runFrom budget 0 s)
-run-from-stopped budget s h =
+-- "it says which, the first in this order": each unit done was one that applied; then the budget was spent, or no further unit applied
+pub record Reasoned (budget : ℕ) (s : State) (o : Outcome) : Type 0 where
+  pub before : (i : ℕ) → i < o .ran .count → reasonOf (unitsDone i s .regs) ≡ 0
+  pub spent : o .ran .count ≡ budget → o .ran .why ≡ 1
+  pub short : o .ran .count < budget → Stopped o
+
+pub run-from-reason : (budget : ℕ) (s : State) → Reasoned budget s (runFrom budget 0 s)
+run-from-reason budget s =
     let t = told budget 0 s in
-    let q = t .short (omega (arith, t .count)) in
-    let k = reason-kinds (runFrom budget 0 s .ran .regs) in
-    record { why = q .0; two = rw (q .0) (two-of (reasonOf (runFrom budget 0 s .ran .regs)) (q .1) k); three = rw (q .0) (k .few) }
+    record {
+      before = λ i h. t .busy i (omega (arith, t .count));
+      spent = λ e. t .spent (omega (arith, t .count));
+      short = λ h. stops (runFrom budget 0 s) (t .short (omega (arith, t .count)));
+    }
   where
     two-of : (y : ℕ) → (y ≡ 0 → ⊥) → Reason y → 2 ≤ y
     two-of y n k = omega (arith, k .not-1)
+
+    stops : (o : Outcome) → (o .ran .why ≡ reasonOf (o .ran .regs)) × (reasonOf (o .ran .regs) ≡ 0 → ⊥) → Stopped o
+    stops o q =
+        let k = reason-kinds (o .ran .regs) in
+        record { why = q .0; two = rw (q .0) (two-of (reasonOf (o .ran .regs)) (q .1) k); three = rw (q .0) (k .few) }
 
 -- where no unit applies, a run does nothing and says why: "nothing is in progress or, in write mode, queued, or a read awaits room"
 pub run-from-idle : (budget k : ℕ) (s : State) → 0 < budget → (reasonOf (s .regs) ≡ 0 → ⊥) → runFrom budget k s ≡ stopped s k (reasonOf (s .regs))
@@ -134,28 +168,7 @@ unfolding runFrom
 run-from-idle zero k s h n = absurd (omega arith)
 run-from-idle (suc f) k s h n = rw (ne-eqb (reasonOf (s .regs)) 0 n)
 
--- .. and a unit changes nothing, so a run leaves what all of its budget's units make
-fetch-idle : (m : Mode) (s : State) → (waiting m (s .regs .buffer) ≡ 0 → ⊥) → fetchBy m (s .regs .buffer .count) s ≡ s
-fetch-idle Write s n =
-    cases (λ (x : State). x ≡ s) (eqb (s .regs .buffer .count) 0) (λ t. refl) (λ t. absurd (n (rw t)))
-fetch-idle Read s n = refl
-
-idle-by : (w : Work) (s : State) → (reasonBy w (s .regs .mode) (s .regs .buffer) ≡ 0 → ⊥) → unitBy w s ≡ s
-unfolding readUnit
-idle-by Idle s n = fetch-idle (s .regs .mode) s n
-idle-by (Figure k d) s n = absurd (n refl)
-idle-by (Character row column start) s n = absurd (n refl)
-idle-by (Reading i t) s n = cases (λ (x : State). x ≡ s) (roomB t (s .regs .buffer)) (λ u. absurd (n (rw u))) (λ u. refl)
-
-pub unit-idle : (s : State) → (reasonOf (s .regs) ≡ 0 → ⊥) → unitDone s ≡ s
-unfolding reasonOf unitDone
-unit-idle s n = idle-by (s .regs .work) s n
-
-units-idle : (k : ℕ) (s : State) → (reasonOf (s .regs) ≡ 0 → ⊥) → unitsDone k s ≡ s
-unfolding unitsDone
-units-idle zero s n = refl
-units-idle (suc k) s n = ap (unitsDone k) (unit-idle s n) ∙ units-idle k s n
-
+-- .. so that it leaves what all the units of its budget make
 pub run-from-all : (budget k : ℕ) (s : State) → leftBy (runFrom budget k s) ≡ unitsDone budget s
 unfolding runFrom unitsDone
 run-from-all zero k s = refl
@@ -203,7 +216,7 @@ went-on (suc a) b k s y =
         ih h ∙ ap (λ (n : ℕ). runFrom b n (leftBy (runFrom a (k + 1) (unitDone s)))) e
     go false ih h = absurd (reason-kinds (s .regs) .not-1 h)
 
--- a run whose budget was spent, and one of b units more, are one run of the sum
+-- a run whose budget a was spent, and one of b units more, are one run of the sum
 pub run-from-joined : (a b : ℕ) (s : State) → runFrom a 0 s .ran .why ≡ 1 → runFrom (a + b) 0 s ≡ further a (runFrom b 0 (leftBy (runFrom a 0 s)))
 run-from-joined a b s y =
     let t = leftBy (runFrom a 0 s) in
@@ -224,6 +237,13 @@ module _ (budget : ℕ) (s : State) where
   pub run-wrong-length : soundB (s .regs) ≡ true → lengthB (length (s .mem)) ≡ false → runDone budget s ≡ refused 2 s
   unfolding runDone
   run-wrong-length e h = rw (e, h)
+
+  pub run-reason : soundB (s .regs) ≡ true → lengthB (length (s .mem)) ≡ true → Reasoned budget s (runDone budget s)
+  run-reason e h = subst (Reasoned budget s) (sym (run-granted e h)) (run-from-reason budget s)
+
+  pub run-idle : soundB (s .regs) ≡ true → lengthB (length (s .mem)) ≡ true → 0 < budget → (reasonOf (s .regs) ≡ 0 → ⊥)
+      → runDone budget s ≡ stopped s 0 (reasonOf (s .regs))
+  run-idle e h some n = run-granted e h ∙ run-from-idle budget 0 s some n
 
   run-by-counts : (t u : Bool) → leftBy (runBy t u budget s) ≡ unitsDone (runBy t u budget s .ran .count) s
   unfolding unitsDone

@@ -1,5 +1,5 @@
 -- 01, Ports: a byte to the command port, to the parameter port, a byte read, the status, the light pen; with the refusals.
-use Prim.Native.Nat.{ℕ, zero, suc, _+_, _*_}
+use Prim.Native.Nat.{ℕ, zero, suc, _+_, _*_, _%_}
 use mathlib.Core.Bool.{Bool, true, false, cond, _&&_}
 use lib.Dec.{eqb, ltb, leb}
 use Rattle.registers.specs.declared.Mode.{Mode}
@@ -56,12 +56,12 @@ parameterWritten r b = cond (soundB r) (parameterIn (r .mode) r b) (refused 1 r)
 -- "5: read with no byte to give"; "Reading a byte takes the oldest read byte."
 abbrev pub byteIn : Mode → Registers → Answer
 byteIn Write r = refused 5 r
-byteIn Read r = cond (eqb (r .buffer .count) 0) (refused 5 r) (granted (oldest (r .buffer)) (putBuffer r (popped (r .buffer))))
+byteIn Read r = cond (eqb (r .buffer .count) 0) (refused 5 r) (granted (oldest (r .buffer) % 256) (putBuffer r (popped (r .buffer))))
 
 unfoldable pub byteRead : Registers → Answer
 byteRead r = cond (soundB r) (byteIn (r .mode) r) (refused 1 r)
 
-abbrev pub oneIf : Bool → ℕ
+unfoldable pub oneIf : Bool → ℕ
 oneIf true = 1
 oneIf false = 0
 
@@ -84,7 +84,11 @@ statusOf r =
 unfoldable pub statusRead : Registers → Answer
 statusRead r = cond (soundB r) (granted (statusOf r) r) (refused 1 r)
 
--- "6: pen address 262,144 or more"; "it replaces the last and sets bit 7"
+-- "it replaces the last and sets bit 7"
+abbrev pub penPut : Registers → ℕ → Registers
+penPut r a = putPen r (record { address = a; set = true })
+
+-- "The host may post an 18-bit light-pen address"; "6: pen address 262,144 or more"
 unfoldable pub penPosted : Registers → ℕ → Answer
 penPosted r a =
-    cond (soundB r) (cond (leb 262144 a) (refused 6 r) (granted 0 (putPen r (record { address = a; set = true })))) (refused 1 r)
+    cond (soundB r) (cond (leb 262144 a) (refused 6 r) (granted 0 (penPut r a))) (refused 1 r)

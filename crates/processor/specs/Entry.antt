@@ -2,21 +2,23 @@
 use Prim.Native.Nat.{ℕ, _+_, _%_}
 use mathlib.Core.Bool.{cond}
 use mathlib.Core.List.{List}
-use lib.Dec.{eqb, ltb}
-use lib.ListN.{set}
+use lib.Dec.{ltb}
 use Rattle.registers.specs.declared.Progress.{Progress}
 use Rattle.registers.specs.declared.Registers.{Registers}
 use Rattle.registers.specs.declared.Command.{Command}
 use Rattle.registers.specs.declared.Command.the-variants.{Nothing, Reset, Vsync, Cchar, Start, Zoom, Curs, Pram, Pitch, Mask, Figs, Figd, Gchrd, Curd, Lprd, Wdat, Rdat, Unknown}
-use Rattle.registers.specs.Put.{putCursor, putPitch, putDrawing, putRam, putVideo, putProgress}
+use Rattle.registers.specs.Put.{putCursor, putDrawing, putVideo, putProgress}
 use Rattle.registers.specs.State.{State, state}
 use Rattle.processor.specs.Command.{commandTaken}
-use Rattle.processor.specs.Parameter.{syncBy, ccharBy, zoomBy, cursBy, maskBy, figsBy}
+use Rattle.processor.specs.Parameter.{syncBy, ccharBy, zoomBy, cursBy, ramBy, pitchBy, maskBy, figsBy}
 use Rattle.processor.specs.Wdat.{wdatTaken}
 
 -- one parameter more has been taken; past the sixteenth they are not told apart
+unfoldable pub nextOf : ℕ → ℕ
+nextOf i = cond (ltb i 16) (i + 1) 16
+
 abbrev pub counted : Progress → Progress
-counted p = record { command = p .command; next = cond (ltb (p .next) 16) (p .next + 1) 16; low = p .low }
+counted p = record { command = p .command; next = nextOf (p .next); low = p .low }
 
 -- the parameter v of a command, i being where it goes; "surplus ones, and those before any command, are ignored, PRAM past address 15 also"
 abbrev pub parameterBy : Command → ℕ → ℕ → Registers → List ℕ → State
@@ -27,8 +29,8 @@ parameterBy Cchar i v r m = state (putVideo r (ccharBy i v (r .video))) m
 parameterBy Start i v r m = state r m
 parameterBy Zoom i v r m = state (putVideo r (zoomBy i v (r .video))) m
 parameterBy Curs i v r m = state (putCursor r (cursBy i v (r .cursor))) m
-parameterBy Pram i v r m = state (cond (ltb i 16) (putRam r (set (r .ram) i v)) r) m
-parameterBy Pitch i v r m = state (cond (eqb i 0) (putPitch r v) r) m
+parameterBy Pram i v r m = state (ramBy i v r) m
+parameterBy Pitch i v r m = state (pitchBy i v r) m
 parameterBy Mask i v r m = state (putCursor r (maskBy i v (r .cursor))) m
 parameterBy Figs i v r m = state (putDrawing r (figsBy i v (r .drawing))) m
 parameterBy Figd i v r m = state r m

@@ -7,7 +7,8 @@ use lib.ListN.{set}
 use Rattle.dots.specs.declared.Cursor.{Cursor}
 use Rattle.registers.specs.declared.Drawing.{Drawing}
 use Rattle.registers.specs.declared.Video.{Video}
-use Rattle.registers.specs.Put.{putZoom, putSync, putCchar, putKind, putDir, putGd, putDc, putD, putD2, putD1, putDm}
+use Rattle.registers.specs.declared.Registers.{Registers}
+use Rattle.registers.specs.Put.{putPitch, putRam, putZoom, putSync, putCchar, putKind, putDir, putGd, putDc, putD, putD2, putD1, putDm}
 
 -- a byte of a number takes its place, the other bits stay: the low byte; the high byte of 16 bits; of 14 bits
 abbrev pub lowByte : ℕ → ℕ → ℕ
@@ -56,3 +57,10 @@ ccharBy i v w = cond (ltb i 3) (putCchar w (set (w .cchar) i v)) w
 
 unfoldable pub zoomBy : ℕ → ℕ → Video → Video
 zoomBy i v w = cond (eqb i 0) (putZoom w v) w
+
+-- PRAM: "past address 15 also" ignored; PITCH: one byte
+unfoldable pub ramBy : ℕ → ℕ → Registers → Registers
+ramBy i v r = cond (ltb i 16) (putRam r (set (r .ram) i v)) r
+
+unfoldable pub pitchBy : ℕ → ℕ → Registers → Registers
+pitchBy i v r = cond (eqb i 0) (putPitch r v) r

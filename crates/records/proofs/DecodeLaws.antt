@@ -1,12 +1,12 @@
 -- One law for each way out of `decode`: what the tests on that way say is what `decodedOf` asks, in its order.
-use mathlib.Core.Path.{_≡_, refl}
+use mathlib.Core.Path.{_≡_}
 use mathlib.Core.Bool.{true, false}
 use borrow.Author.Tests.{eq-eqb, ne-eqb}
 use Rattle.records.specs.declared.Raw.{Raw}
 use Rattle.records.specs.declared.Room.{Room}
 use Rattle.records.specs.declared.Refusal.the-variants.{Form}
 use Rattle.records.specs.declared.Decoded.{Decoded}
-use Rattle.records.specs.declared.Decoded.the-variants.{Good, Refused}
+use Rattle.records.specs.declared.Decoded.the-variants.{Refused}
 use Rattle.records.specs.Decode.{formB, dotOf, lineOf, rectOf, glyphOf, decodedOf}
 
 module _ (r : Raw) (m : Room) where

@@ -1,7 +1,7 @@
 -- 01, Drawing sheets and Numbers of refusal: what a record stands for, and 16 to 19 in their order.
 use Prim.Native.Nat.{ℕ, _+_, _*_}
 use mathlib.Core.List.{List}
-use mathlib.Core.Bool.{Bool, true, false, cond, not, _&&_, _||_}
+use mathlib.Core.Bool.{Bool, cond, not, _&&_, _||_}
 use lib.Dec.{eqb, ltb, leb}
 use Rattle.dots.specs.declared.Operation.{Operation}
 use Rattle.dots.specs.declared.Operation.the-variants.{Replace, Complement, Reset, Set}

@@ -3,7 +3,7 @@
 use mathlib.Core.Path.{_≡_, refl, sym, ap, subst, _∙_}
 use mathlib.Core.Bool.{Bool, true, false, cond, _&&_, false≢true}
 use mathlib.Core.List.{List, _++_}
-use Prim.Native.Nat.{ℕ, zero, suc, _+_, _-_, _*_, _/_, _%_, _<_, _≤_}
+use Prim.Native.Nat.{ℕ, _+_, _*_, _/_, _%_, _<_, _≤_}
 use native.Mathlib.Omega.{arith}
 use lib.Dec.{eqb, ltb, leb}
 use lib.ListN.{length, drop}
@@ -12,6 +12,7 @@ use Rattle.records.specs.declared.Room.{Room}
 use Rattle.blocks.specs.declared.Answer.{Answer}
 use Rattle.blocks.specs.Answer.{answer, orElse}
 use Rattle.blocks.specs.Block.{blocksChecked}
+use Rattle.blocks.proofs.AnswerLaws.{or-first, or-next, or-zero}
 use Rattle.entries.specs.Entries.{placed}
 use Rattle.entries.proofs.PutLaws.{placed-is}
 use Rattle.sheets.specs.Slots.{sized, figures, recordsChecked, translation}
@@ -31,7 +32,7 @@ pub record Framed (p h g l : ℕ) : Type 0 where
   pub whole : l % 512 ≡ 0
   pub blocks : l ≤ 8192
 
-three : (a b c : Bool) → _≡_ {A = ℕ} (cond a (cond b (cond c 0 13) 12) 11) 0 → (a ≡ true) × (b ≡ true) × (c ≡ true)
+pub three : (a b c : Bool) → _≡_ {A = ℕ} (cond a (cond b (cond c 0 13) 12) 11) 0 → (a ≡ true) × (b ≡ true) × (c ≡ true)
 three true true true e = (refl, refl, refl)
 three true true false e = absurd (omega arith)
 three true false c e = absurd (omega arith)
@@ -58,19 +59,6 @@ framed p h g l e z =
     }
 
 -- ---- refusals in their order
-pub or-first : (a b : Answer) → (a .number ≡ 0 → ⊥) → orElse a b ≡ a
-or-first a b z = rw (ne-eqb (a .number) 0 z)
-
-pub or-next : (a b : Answer) → a .number ≡ 0 → orElse a b ≡ b
-or-next a b z = rw (eq-eqb (a .number) 0 z)
-
-pub or-zero : (a b : Answer) → orElse a b .number ≡ 0 → (a .number ≡ 0) × (orElse a b ≡ b)
-or-zero a b e = go (eqb (a .number) 0) refl e
-  where
-    go : (t : Bool) → eqb (a .number) 0 ≡ t → cond t b a .number ≡ 0 → (a .number ≡ 0) × (cond t b a ≡ b)
-    go true q z = (eqb-true (a .number) 0 q, refl)
-    go false q z = absurd (false≢true (sym q ∙ eq-eqb (a .number) 0 z))
-
 -- where a refusal is met the last answer has no part in it
 or-refused : (b r x y : Answer) → x .number ≡ 0 → (orElse b (orElse r x) .number ≡ 0 → ⊥) → orElse b (orElse r x) ≡ orElse b (orElse r y)
 or-refused b r x y e z = go (eqb (b .number) 0) (eqb (r .number) 0) z
@@ -152,6 +140,7 @@ ended-zero e l z = go (ltb l e) refl z
     go false q k = (ltb-false l e q, refl)
 
 pub record Translated (s : List ℕ) (p h : ℕ) (t o : List ℕ) (a : Answer) (o′ : List ℕ) : Type 0 where
+  pub framing : frameRefusal p h (length t) (length s) ≡ 0
   pub frame : Framed p h (length t) (length s)
   pub blocks : blocksChecked s (length s / 512) .number ≡ 0
   pub records : recordsChecked s (roomOf p h (length t)) (length s / 512) .number ≡ 0
@@ -171,6 +160,7 @@ translated-means s p h t o {a} e z =
     let k = ended-zero (length (translation t p (figuresOf s p h t))) (length o) (sym (ap (λ (x : Answer). x .number) (u .1 ∙ v .1 ∙ w .1)) ∙ nz) in
     let r : a .first ≡ length (translation t p (figuresOf s p h t)) = ap (λ (x : Answer). x .first) (ae ∙ u .1 ∙ v .1 ∙ w .1 ∙ k .1) in
     record {
+      framing = u .0;
       frame = framed p h (length t) (length s) refl (u .0);
       blocks = v .0;
       records = w .0;

@@ -6,7 +6,6 @@ use mathlib.Core.List.{List, [], _∷_, _++_, append-assoc, append-nil}
 use Prim.Native.Nat.{ℕ, zero, suc, _+_, _-_, _*_, _/_, _%_, _<_, _≤_}
 use native.Mathlib.Omega.{arith}
 use lib.ListN.{length, length-append}
-use borrow.Author.Tests.{eq-eqb, ne-eqb}
 use Rattle.records.specs.declared.Record.{Record}
 use Rattle.records.specs.declared.Room.{Room}
 use Rattle.records.specs.declared.Refusal.{Refusal}
@@ -17,11 +16,12 @@ use Rattle.records.specs.declared.Decoded.the-variants.{Good, Refused}
 use Rattle.records.specs.Decode.{decodedAt}
 use Rattle.records.specs.Refused.{numberOf}
 use Rattle.blocks.specs.declared.Answer.{Answer}
-use Rattle.blocks.specs.Answer.{answer, orElse}
+use Rattle.blocks.specs.Answer.{answer, orElse, firstFrom}
+use Rattle.blocks.proofs.AnswerLaws.{or-first, first-start, first-stop, first-go-on, first-end}
 use Rattle.entries.specs.Entries.{placed, plain, figureSize, sizeOf, entriesOf}
-use Rattle.entries.proofs.PutLaws.{entries-size, placed-append, placed-length}
+use Rattle.entries.proofs.PutLaws.{entries-size, placed-append}
 use Rattle.sheets.specs.declared.Measured.{Measured}
-use Rattle.sheets.specs.Slots.{placeOf, usedB, slotRefusal, recordsFrom, recordsChecked, figuresIn, slotFigures, figuresFrom, figures, translated, translation, sized, measured}
+use Rattle.sheets.specs.Slots.{placeOf, usedB, slotRefusal, slotAnswer, recordsChecked, figuresIn, slotFigures, figuresFrom, figures, translated, translation, sized, measured}
 
 -- ---- one slot
 module _ (s : List ℕ) (m : Room) (k : ℕ) where
@@ -99,36 +99,32 @@ module _ (s : List ℕ) (m : Room) (n k : ℕ) where
   figures-turn h = let e : 50 * n - k ≡ suc (50 * n - (k + 1)) = omega arith in rw e
 
   pub records-stop : {x : Measured} → k < 50 * n → x ≡ measured s m k → (x .number ≡ 0 → ⊥)
-      → recordsChecked s m n ≡ recordsFrom s m (50 * n - k) k → answer (x .number) (k / 50) (k % 50) ≡ counted s m n
-  unfolding recordsFrom
-  records-stop h q z i =
-      let e : 50 * n - k ≡ suc (50 * n - (k + 1)) = omega arith in
-      let y : slotRefusal s m k ≡ 0 → ⊥ = rw q at z in
-      rw (i, e, q, ne-eqb (slotRefusal s m k) 0 y, ne-eqb (slotRefusal s m k) 0 y)
+      → recordsChecked s m n ≡ firstFrom (slotAnswer s m) (50 * n - k) k → answer (x .number) (k / 50) (k % 50) ≡ counted s m n
+  records-stop {x} h q z i =
+      let a : answer (x .number) (k / 50) (k % 50) ≡ slotAnswer s m k = ap (λ (y : Measured). answer (y .number) (k / 50) (k % 50)) q in
+      let e : answer (x .number) (k / 50) (k % 50) ≡ recordsChecked s m n = first-stop (slotAnswer s m) (50 * n) k h a z ∙ sym i in
+      e ∙ sym (or-first (recordsChecked s m n) _ (λ w. z (ap (λ (y : Answer). y .number) e ∙ w)))
 
   pub records-go-on : {x : Measured} → k < 50 * n → x ≡ measured s m k → x .number ≡ 0
-      → recordsFrom s m (50 * n - k) k ≡ recordsFrom s m (50 * n - (k + 1)) (k + 1)
-  unfolding recordsFrom
-  records-go-on h q z =
-      let e : 50 * n - k ≡ suc (50 * n - (k + 1)) = omega arith in
-      let y : slotRefusal s m k ≡ 0 = rw q at z in
-      rw (e, eq-eqb (slotRefusal s m k) 0 y)
+      → firstFrom (slotAnswer s m) (50 * n - k) k ≡ firstFrom (slotAnswer s m) (50 * n - (k + 1)) (k + 1)
+  records-go-on h q z = first-go-on (slotAnswer s m) (50 * n) k h (sym (ap (λ (y : Measured). y .number) q) ∙ z)
 
   pub need-goes-on : {x : Measured} (need : ℕ) → k < 50 * n → x ≡ measured s m k
       → need + sized (figuresFrom s m (50 * n - k) k) ≡ need + x .entries + sized (figuresFrom s m (50 * n - (k + 1)) (k + 1))
   need-goes-on need h q = rw (figures-turn h, sized-append, q) (omega arith)
 
-  pub records-end : {need : ℕ} → 50 * n ≤ k → recordsChecked s m n ≡ recordsFrom s m (50 * n - k) k
+  pub records-end : {need : ℕ} → 50 * n ≤ k → recordsChecked s m n ≡ firstFrom (slotAnswer s m) (50 * n - k) k
       → 2 + sized (figures s m n) ≡ need + sized (figuresFrom s m (50 * n - k) k) → answer 0 need 0 ≡ counted s m n
-  unfolding recordsFrom figuresFrom sized
+  unfolding figuresFrom sized
   records-end {need} h i j =
       let e : 50 * n - k ≡ zero = omega arith in
       let d : 2 + sized (figures s m n) ≡ need = rw e at j ∙ omega arith in
-      rw (i, e, d)
+      let r : recordsChecked s m n ≡ answer 0 0 0 = i ∙ sym (first-end (slotAnswer s m) (50 * n) k h) in
+      rw (r, d)
 
-  pub records-start : recordsChecked s m n ≡ recordsFrom s m (50 * n - 0) 0
+  pub records-start : recordsChecked s m n ≡ firstFrom (slotAnswer s m) (50 * n - 0) 0
   unfolding recordsChecked
-  records-start = let e : 50 * n - 0 ≡ 50 * n = omega arith in rw e
+  records-start = first-start (slotAnswer s m) (50 * n)
 
   pub figures-start : figures s m n ≡ figuresFrom s m (50 * n - 0) 0
   unfolding figures

@@ -11,7 +11,7 @@ use Rattle.records.specs.Raw.{recordPlace}
 use Rattle.records.specs.Decode.{decodedAt}
 use Rattle.records.specs.Refused.{numberOf}
 use Rattle.blocks.specs.declared.Answer.{Answer}
-use Rattle.blocks.specs.Answer.{answer, orElse}
+use Rattle.blocks.specs.Answer.{answer, firstFrom}
 use Rattle.blocks.specs.Block.{countOf}
 use Rattle.entries.specs.Entries.{sizeOf, entriesOf}
 use Rattle.sheets.specs.declared.Measured.{Measured}
@@ -27,14 +27,13 @@ usedB s k = ltb (k % 50) (countOf s (k / 50))
 unfoldable pub slotRefusal : List ℕ → Room → ℕ → ℕ
 slotRefusal s m k = cond (usedB s k) (numberOf (decodedAt s (placeOf k) m)) 0
 
--- "16 to 19 record by record over the sheet": f slots from k on; they return "block, record"
-unfoldable pub recordsFrom : List ℕ → Room → ℕ → ℕ → Answer
-recordsFrom s m zero k = answer 0 0 0
-recordsFrom s m (suc f) k = orElse (answer (slotRefusal s m k) (k / 50) (k % 50)) (recordsFrom s m f (k + 1))
+-- "16, 17, 18, 19 | .. | block, record"
+abbrev pub slotAnswer : List ℕ → Room → ℕ → Answer
+slotAnswer s m k = answer (slotRefusal s m k) (k / 50) (k % 50)
 
--- "fifty records" in each of n blocks
+-- "16 to 19 record by record over the sheet"; "fifty records" in each of n blocks
 unfoldable pub recordsChecked : List ℕ → Room → ℕ → Answer
-recordsChecked s m n = recordsFrom s m (50 * n) 0
+recordsChecked s m n = firstFrom (slotAnswer s m) (50 * n) 0
 
 -- a slot's figure, in a list of none or one
 abbrev pub figuresIn : Decoded → List Record

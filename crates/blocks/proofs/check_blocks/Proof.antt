@@ -2,7 +2,8 @@
 use Prim.Native.Nat.{_-_, _≤_}
 use mathlib.Core.Path.{_≡_, sym, _∙_}
 use borrow.Author.Needs.{needs}
-use Rattle.blocks.specs.Block.{blocksFrom, blocksChecked}
+use Rattle.blocks.specs.Answer.{firstFrom}
+use Rattle.blocks.specs.Block.{blockAnswer, blocksChecked}
 use Rattle.blocks.proofs.BlockLaws.{blocks-start, blocks-stop, blocks-go-on, blocks-end}
 use Rattle.blocks.proofs.check_blocks.Statement.{statement}
 use Rattle.blocks.proofs.check_blocks.Tie as tie
@@ -11,7 +12,7 @@ use Rattle.blocks.proofs.check_blocks.Lts as lts
 use Rattle.blocks.proofs.block_refusal.Reads as block-refusal-reads
 
 abbrev Inv-loop : tie.InvT-loop
-Inv-loop s n b₀ b = (b ≤ n) × (blocksChecked s n ≡ blocksFrom s n (n - b) b)
+Inv-loop s n b₀ b = (b ≤ n) × (blocksChecked s n ≡ firstFrom (blockAnswer s n) (n - b) b)
 
 abbrev μ-loop : tie.MeasureT-loop
 μ-loop s n b₀ b = n - b

@@ -2,10 +2,11 @@
 use Prim.Native.Nat.{ℕ, _+_, _-_, _*_, _≤_}
 use native.Mathlib.Omega.{arith}
 use mathlib.Core.List.{List}
-use mathlib.Core.Path.{_≡_, refl, sym, ap, _∙_}
+use mathlib.Core.Path.{_≡_, ap, _∙_}
 use borrow.Author.Needs.{needs}
 use Rattle.records.specs.declared.Room.{Room}
-use Rattle.sheets.specs.Slots.{sized, figures, figuresFrom, recordsFrom, recordsChecked}
+use Rattle.blocks.specs.Answer.{firstFrom}
+use Rattle.sheets.specs.Slots.{sized, figures, figuresFrom, slotAnswer, recordsChecked}
 use Rattle.sheets.proofs.SlotLaws.{slot-small, records-stop, records-go-on, records-end, records-start, figures-start, need-goes-on}
 use Rattle.sheets.proofs.check_records.Statement.{statement}
 use Rattle.sheets.proofs.check_records.Tie as tie
@@ -16,7 +17,7 @@ use Rattle.sheets.proofs.measure.Reads as measure-reads
 record Going (s : List ℕ) (n : ℕ) (m : Room) (need k : ℕ) : Type 0 where
   within : k ≤ 50 * n
   small : need ≤ 2 + 21 * k
-  first : recordsChecked s m n ≡ recordsFrom s m (50 * n - k) k
+  first : recordsChecked s m n ≡ firstFrom (slotAnswer s m) (50 * n - k) k
   total : 2 + sized (figures s m n) ≡ need + sized (figuresFrom s m (50 * n - k) k)
 
 abbrev Inv-loop : tie.InvT-loop

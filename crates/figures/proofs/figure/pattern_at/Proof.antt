@@ -1,0 +1,37 @@
+-- `pattern_at` is the definition: a shift by k is a division by 2^k.
+use Rattle.figures.specs.Figure.{patternOf}
+use Rattle.dots.specs.Bit.{bit}
+use mathlib.Core.Path.{refl}
+use borrow.Author.Needs.{needs}
+use Rattle.figures.proofs.figure.pattern_at.Statement.{statement}
+use Rattle.figures.proofs.figure.pattern_at.Tie as tie
+use Rattle.figures.proofs.figure.pattern_at.Reads as reads
+use Rattle.figures.proofs.figure.pattern_at.Lts as lts
+
+-- src/figure.rt:15:29
+mul-word : tie.Need-mul-word
+mul-word c = search needs
+
+-- src/figure.rt:15:16
+add-word : tie.Need-add-word
+add-word c = search needs
+
+-- src/figure.rt:16:7
+shr-result : tie.Need-shr-result
+shr-result c = search needs
+
+-- src/figure.rt:16:6
+mul-result : tie.Need-mul-result
+mul-result c = search needs
+
+-- src/figure.rt:16:5
+cast-result : tie.Need-cast-result
+cast-result c = search needs
+
+-- src/figure.rt:12:1
+returns : tie.Need-returns
+unfolding patternOf bit
+returns c = refl
+
+pub pattern-at-spec : {M : Type 1} → statement M
+pattern-at-spec = tie.close (tie.spec mul-word add-word shr-result mul-result cast-result returns)
