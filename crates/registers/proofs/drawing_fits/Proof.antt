@@ -1,0 +1,12 @@
+-- `drawing_fits` is the definition, word for word.
+use mathlib.Core.Path.{refl}
+use Rattle.registers.proofs.drawing_fits.Statement.{statement}
+use Rattle.registers.proofs.drawing_fits.Tie as tie
+use Rattle.registers.proofs.drawing_fits.Reads as reads
+use Rattle.registers.proofs.drawing_fits.Lts as lts
+
+returns : tie.Need-returns
+returns c = refl
+
+pub drawing-fits-spec : {M : Type 1} → statement M
+drawing-fits-spec = tie.close (tie.spec returns)
