@@ -25,7 +25,7 @@ use Rattle.registers.specs.declared.Transfer.the-variants.{Word}
 use Rattle.registers.specs.declared.Registers.{Registers}
 use Rattle.registers.specs.Put.{putCursor, putOp, putRam, putProgress}
 use Rattle.processor.specs.Command.{operationOf}
-use Rattle.figures.specs.Figure.{patternAt}
+use Rattle.figures.specs.Figure.{patternOf, patternAt}
 use Rattle.sending.proofs.WaitLaws.{Waiting, drained}
 use Rattle.sending.proofs.SendLaws.{Acts, acts-then}
 use Rattle.sending.proofs.EntryLaws.{progress, wdat-command}
@@ -84,7 +84,7 @@ unfolding bit
 ones k = eqb→eq _ _ (below (λ j. eqb (bit j 65535) 1) 16 tt (k % 16) (omega arith))
 
 pub pattern-ones : (ram : List ℕ) → length ram ≡ 16 → (i k : ℕ) → bit (k % 16) (patternAt (set (set ram 8 255) 9 255) i) ≡ 1
-unfolding patternAt
+unfolding patternAt patternOf
 pattern-ones ram l i k =
     let high = getD-set-same (set ram 8 255) 9 255 0 (rw (length-set ram 8 255) (omega arith)) in
     let low = getD-set-other (set ram 8 255) 9 8 255 0 (λ z. omega arith) in

@@ -17,8 +17,8 @@ use Rattle.registers.specs.Put.{putCursor, putPitch, putDrawing, putOp, putRam,
 use Rattle.registers.specs.State.{state}
 use Rattle.commands.specs.Decode.{commandOf, familyOf}
 use Rattle.processor.specs.Command.{operationOf, commandTaken}
-use Rattle.processor.specs.Parameter.{cursBy, figsBy, zoomBy}
-use Rattle.processor.specs.Entry.{counted, parameterBy, parameterTaken, entryTaken}
+use Rattle.processor.specs.Parameter.{cursBy, figsBy, zoomBy, ramBy, pitchBy}
+use Rattle.processor.specs.Entry.{nextOf, counted, parameterBy, parameterTaken, entryTaken}
 use Rattle.sending.proofs.WaitLaws.{Waiting, drained, takenBy}
 use Rattle.sending.proofs.SendLaws.{Acts, acts-one}
 
@@ -62,7 +62,7 @@ module _ {r : Registers} (v : Waiting r) where
 -- one parameter of the command c
 module _ {r : Registers} (v : Waiting r) (b : ℕ) (byte : b < 256) (i : ℕ) (few : i < 16) where
   as-parameter : (c : Command) → r .progress ≡ progress c i → (m : List ℕ) → takenBy b r m ≡ parameterBy c i b (putProgress (drained r) (progress c (i + 1))) m
-  unfolding entryTaken parameterTaken
+  unfolding entryTaken parameterTaken nextOf
   as-parameter c e m =
       rw (lt-ltb b 256 byte)
       (ap (λ (p : Progress). parameterBy (p .command) (p .next) b (putProgress (drained r) (counted p)) m) e
@@ -72,6 +72,7 @@ module _ {r : Registers} (v : Waiting r) (b : ℕ) (byte : b < 256) (i : ℕ) (f
   curs-byte e = acts-one v (omega arith) (λ q. omega arith) (as-parameter Curs e) refl refl refl
 
   pub pram-byte : r .progress ≡ progress Pram i → Acts r (b ∷ []) (putProgress (putRam (drained r) (set (r .ram) i b)) (progress Pram (i + 1)))
+  unfolding ramBy
   pram-byte e =
       acts-one v (omega arith) (λ q. omega arith)
       (λ m. as-parameter Pram e m ∙ ap (λ (t : Bool). state (cond t (putRam next (set (r .ram) i b)) next) m) (lt-ltb i 16 few))
@@ -86,6 +87,7 @@ module _ {r : Registers} (v : Waiting r) (b : ℕ) (byte : b < 256) (i : ℕ) (f
 -- the one parameter of PITCH, and of ZOOM
 module _ {r : Registers} (v : Waiting r) (b : ℕ) (byte : b < 256) where
   pub pitch-byte : r .progress ≡ progress Pitch 0 → Acts r (b ∷ []) (putProgress (putPitch (drained r) b) (progress Pitch 1))
+  unfolding pitchBy
   pitch-byte e = acts-one v (omega arith) (λ q. omega arith) (as-parameter v b byte 0 (omega arith) Pitch e) refl refl refl
 
   pub zoom-byte : r .progress ≡ progress Zoom 0 → Acts r (b ∷ []) (putProgress (putVideo (drained r) (putZoom (r .video) b)) (progress Zoom 1))
