@@ -1,4 +1,4 @@
--- What the exported functions answer.
+-- The run of what is a register set, step by step as `kranichseil_run` makes it, is the definition. True since each step is an equation.
 use Prim.Native.Nat.{ℕ}
 use mathlib.Core.Path.{_≡_, refl, sym, ap, _∙_}
 use mathlib.Core.Bool.{Bool, true, false}
@@ -13,7 +13,6 @@ use Rattle.mirror.specs.Form.{formB}
 use Rattle.mirror.specs.Mirror.{fromPlain}
 use Rattle.mirror.specs.Asked.{plained, ranPlain, ranOn}
 
--- the run of what is a register set
 module _ (f : ℕ) (p : PlainRegisters) (m : List ℕ) where
   pub runs : {x : Registers} {d : Ran} {z : List ℕ} {y : PlainRan} → formB p ≡ true → x ≡ fromPlain p → outcome d z ≡ runDone f (state x m) → y ≡ ranPlain d
       → plained y z ≡ ranOn p m (runDone f (state (fromPlain p) m))

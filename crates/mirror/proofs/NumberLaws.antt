@@ -1,11 +1,11 @@
 -- Numbers and enums, both ways: the number of an enum's case gives the case back, and a number within the range is the number of
 -- its case. True case by case.
 use Prim.Native.Nat.{ℕ, zero, suc, _<_}
-use mathlib.Core.Path.{_≡_, refl, sym}
+use mathlib.Core.Path.{_≡_, refl, sym, subst}
 use mathlib.Core.Bool.{Bool, true, false}
 use mathlib.Core.List.{List, [], _∷_}
 use native.Mathlib.Omega.{arith}
-use borrow.Author.Tests.{ltb-true, eqb-true}
+use borrow.Author.Tests.{ltb-true, ltb-false, eqb-true, eqb-false, ne-eqb}
 use lib.Dec.{ltb, eqb}
 use types.Run.{OneOf, miss}
 use denote.Enum.Declared.{tagOf}
@@ -18,6 +18,7 @@ use Rattle.registers.specs.declared.Transfer.the-variants as transfer
 use Rattle.registers.specs.declared.Command.{Command}
 use Rattle.registers.specs.declared.Command.the-variants.{Nothing, Reset, Vsync, Cchar, Start, Zoom, Curs, Pram, Pitch, Mask, Figs, Figd, Gchrd, Curd, Lprd, Wdat, Rdat, Unknown}
 use Rattle.registers.proofs.Command as C
+use Rattle.registers.proofs.BoolLaws.{false-true}
 use Rattle.mirror.specs.Numbers.{bitOf, bitNumber, operationOf, operationNumber, modeOf, modeNumber, transferOf, transferNumber, commandOf, commandNumber, commandTransfer}
 use Rattle.mirror.specs.Form.{commandFormB}
 
@@ -129,3 +130,54 @@ command-fits Unknown = refl
 abbrev Each : (ℕ → Type 0) → ℕ → Type 0
 Each P zero = Unit {0}
 Each P (suc n) = Each P n × P n
+
+each-or-last : (P : ℕ → Type 0) (n k : ℕ) → (k < n → P k) → P n → k < suc n → (t : Bool) → eqb k n ≡ t → P k
+each-or-last P n k f p h true q = subst P (sym (eqb-true k n q)) p
+each-or-last P n k f p h false q = let d = eqb-false k n q in f (omega (arith, d))
+
+each : (P : ℕ → Type 0) (n : ℕ) → Each P n → (k : ℕ) → k < n → P k
+each P zero e k h = absurd (omega arith)
+each P (suc n) e k h = each-or-last P n k (λ l. each P n (e .0) k l) (e .1) h (eqb k n) refl
+
+-- ---- a number within the range, its case, the number
+pub bit-there : (n : ℕ) → ltb n 2 ≡ true → bitNumber (bitOf n) ≡ n
+bit-there n e = each (λ k. bitNumber (bitOf k) ≡ k) 2 ((tt, refl), refl) n (ltb-true n 2 e)
+
+pub operation-there : (n : ℕ) → ltb n 4 ≡ true → operationNumber (operationOf n) ≡ n
+operation-there n e =
+    each (λ k. operationNumber (operationOf k) ≡ k) 4 ((((tt, refl), refl), refl), refl) n (ltb-true n 4 e)
+
+pub mode-there : (n : ℕ) → ltb n 2 ≡ true → modeNumber (modeOf n) ≡ n
+mode-there n e = each (λ k. modeNumber (modeOf k) ≡ k) 2 ((tt, refl), refl) n (ltb-true n 2 e)
+
+pub transfer-there : (n : ℕ) → ltb n 3 ≡ true → transferNumber (transferOf n) ≡ n
+transfer-there n e = each (λ k. transferNumber (transferOf k) ≡ k) 3 (((tt, refl), refl), refl) n (ltb-true n 3 e)
+
+-- a command's number is below 18, whatever stands beside it
+command-below : (n x : ℕ) → commandFormB n x ≡ true → (t : Bool) → ltb n 18 ≡ t → n < 18
+command-below n x e true q = ltb-true n 18 q
+command-below n x e false q =
+    let h = ltb-false n 18 q in
+    let a = ne-eqb n 15 (λ (z : n ≡ 15). absurd (omega arith)) in
+    let b = ne-eqb n 16 (λ (z : n ≡ 16). absurd (omega arith)) in
+    absurd (false-true (subst (λ (t : Bool). t ≡ true) (none a b) e))
+  where
+    none : eqb n 15 ≡ false → eqb n 16 ≡ false → commandFormB n x ≡ false
+    none a b = rw (a, b, q)
+
+pub command-there : (n x : ℕ) → commandFormB n x ≡ true → commandNumber (commandOf n x) ≡ n
+command-there n x e =
+    each (λ k. commandNumber (commandOf k x) ≡ k) 18
+    ((((((((((((((((((tt, refl), refl), refl), refl), refl), refl), refl), refl), refl), refl), refl), refl), refl), refl), refl), refl), refl), refl) n
+    (command-below n x e (ltb n 18) refl)
+
+-- the transfer beside it: 0, but for WDAT and RDAT
+abbrev Beside : ℕ → ℕ → Type 0
+Beside x k = commandFormB k x ≡ true → commandTransfer (commandOf k x) ≡ x
+
+none-beside : (x : ℕ) → eqb x 0 ≡ true → 0 ≡ x
+none-beside x e = sym (eqb-true x 0 e)
+
+pub transfer-beside : (n x : ℕ) → commandFormB n x ≡ true → commandTransfer (commandOf n x) ≡ x
+transfer-beside n x e =
+    each (Beside x) 18 ((((((((((((((((((tt, none-beside x), none-beside x), none-beside x), none-beside x), none-beside x), none-beside x), none-beside x), none-beside x), none-beside x), none-beside x), none-beside x), none-beside x), none-beside x), none-beside x), none-beside x), transfer-there x), transfer-there x), none-beside x) n (command-below n x e (ltb n 18) refl) e
