@@ -1,0 +1,316 @@
+"""The self check: worked cases, written out by hand from document 01.
+
+A part of the SECOND PROGRAM. `python3 selfcheck.py` prints how many checks
+were made and how many came out wrong; the exit status is 1 if any did. The
+expected values below are copied from 01's bench sheet or worked out from its
+sentences with pencil and paper, not taken from any program.
+"""
+
+import sys
+
+from bench import Bench, digest
+from chip import NAMES, logic_unit, step, whole_word_move
+from plane import border_dots, dots, glyph_dots, line_dots
+from sheet import DOT, GLYPH, LINE, RECTANGLE, Figure, Picture, block_sum, translate
+
+ACCEPTANCES = ("M 0", "W 0", "C 0", "P 0", "L 0")
+
+checks = 0
+wrong = 0
+
+
+def check(what, found, expected):
+    global checks, wrong
+    checks += 1
+    if found != expected:
+        wrong += 1
+        print("WRONG: %s\n  found    %s\n  expected %s" % (what, found, expected))
+
+
+def talk(what, script, answers):
+    # Sends each line of the script to a new bench; plain acceptances (`C 0`,
+    # `P 0`, ...) are left out of the comparison.
+    bench = Bench()
+    found = [bench.answer(line) for line in script.split("; ")]
+    told = [answer for answer in found if answer not in ACCEPTANCES]
+    check(what, "; ".join(told), answers)
+
+
+def block(number, count, last, records, damage=None):
+    # A block with its check; `damage` is (place, byte) set before the check.
+    body = bytearray(510)
+    body[0:4] = bytes([number % 256, number // 256, count, last])
+    for index, record in enumerate(records):
+        body[4 + 10 * index:14 + 10 * index] = bytes.fromhex(record)
+    if damage is not None:
+        body[damage[0]] = damage[1]
+    total = block_sum(bytes(body))
+    return bytes(body) + bytes([total % 256, total // 256])
+
+
+def check_logic_unit():
+    check("K1", logic_unit(0x00FF, 0x0F0F, 0x3333, 0), 0x03F3)
+    check("K2", logic_unit(0x00FF, 0x0F0F, 0x3333, 1), 0x03FC)
+    check("K3", logic_unit(0x00FF, 0x0F0F, 0x3333, 2), 0x00FC)
+    check("K4", logic_unit(0x00FF, 0x0F0F, 0x3333, 3), 0x03FF)
+
+
+def check_steps():
+    check("K5", step(5, 0x8000, 2, 0), (6, 0x0001))
+    check("K6", step(0, 0x0001, 6, 0), (262143, 0x8000))
+    check("K7", step(100, 0x8000, 3, 40), (61, 0x0001))
+    # Each direction from EAD 100, pitch 10, a mask in the middle of a word.
+    ends = [(110, 0x10), (110, 0x20), (100, 0x20), (90, 0x20),
+            (90, 0x10), (90, 0x08), (100, 0x08), (110, 0x08)]
+    for direction in range(8):
+        check("step %d" % direction, step(100, 0x10, direction, 10), ends[direction])
+    # A whole word in each direction.
+    ends = [110, 111, 101, 91, 90, 89, 99, 109]
+    for direction in range(8):
+        check("word %d" % direction, whole_word_move(100, direction, 10), ends[direction])
+    check("wrap up", whole_word_move(262143, 2, 0), 0)
+    check("wrap down", whole_word_move(0, 6, 0), 262143)
+    check("mask FFFF always carries", step(7, 0xFFFF, 2, 3), (8, 0xFFFF))
+    check("mask 0 never carries", step(7, 0, 5, 3), (4, 0))
+
+
+def check_names():
+    check("names", [NAMES[b] for b in (0x23, 0x28, 0x30, 0x3B, 0x24, 0xA0, 0xA8, 0xB8, 0xA4)],
+          ["WDAT", "unknown", "WDAT", "WDAT", "unknown", "RDAT", "unknown", "RDAT", "unknown"])
+    check("how many known", sum(name != "unknown" for name in NAMES), 1 + 2 + 11 + 16 + 12 + 3)
+
+
+def check_lines():
+    def along(x, y, x1, y1):
+        return [(a, b) for a, b, _ in line_dots(Figure(LINE, 3, x, y, x1, y1, 0, 0))]
+    check("K8 rows", [y for _, y in along(0, 0, 5, 2)], [0, 0, 1, 1, 2, 2])
+    check("K9", along(0, 0, 2, 1)[1], (1, 1))
+    check("K10", along(2, 1, 0, 0)[1], (1, 0))
+    check("one dot", along(4, 4, 4, 4), [(4, 4)])
+    entries = translate(Picture(40, 400), b"", [Figure(LINE, 0, 0, 0, 5, 2, 0, 0)])
+    # WDAT, CURS 3, PRAM 2, then FIGS: L DIR 1, DC 5, D -1, D2 -6, D1 4.
+    check("K8 entries", entries[2:],
+          [0x120, 0x149, 0, 0, 0, 0x178, 0xFF, 0xFF, 0x14C, 0x09, 5, 0,
+           0xFF, 0x3F, 0xFA, 0x3F, 4, 0, 0x16C])
+
+
+def check_smallest_directions():
+    # (right, down) and the DIR wanted.
+    wanted = {(0, 0): 0, (0, 5): 0, (5, 0): 1, (0, -5): 3, (-5, 0): 5,
+              (5, 5): 0, (5, -5): 2, (-5, -5): 4, (-5, 5): 6,
+              (2, 5): 0, (5, 2): 1, (5, -2): 2, (2, -5): 3,
+              (-2, -5): 4, (-5, -2): 5, (-5, 2): 6, (-2, 5): 7}
+    for (right, down), direction in wanted.items():
+        figure = Figure(LINE, 0, 100, 100, 100 + right, 100 + down, 0, 0)
+        entries = translate(Picture(40, 400), b"", [figure])
+        check("DIR of %d, %d" % (right, down), entries[11], 8 + direction)
+
+
+def check_rectangles_and_glyphs():
+    border = sorted((x, y) for x, y, _ in border_dots(Figure(RECTANGLE, 3, 3, 2, 1, 0, 0, 0)))
+    check("border", border, [(1, 0), (1, 1), (1, 2), (2, 0), (2, 2), (3, 0), (3, 1), (3, 2)])
+    flat = [(x, y) for x, y, _ in border_dots(Figure(RECTANGLE, 3, 3, 0, 0, 0, 0, 0))]
+    check("flat border", sorted(flat), [(0, 0), (1, 0), (2, 0), (3, 0)])
+    check("dot", dots(Figure(DOT, 3, 3, 2, 0, 0, 0, 0), b""), [(3, 2, 1)])
+    rows = bytes([0x01, 0, 0, 0, 0, 0, 0, 0x80])
+    ones = [(x, y) for x, y, bit in glyph_dots(Figure(GLYPH, 3, 10, 20, 0, 0, 0, 2), rows) if bit]
+    check("glyph", ones, [(10, 20), (11, 20), (10, 21), (11, 21),
+                          (24, 34), (25, 34), (24, 35), (25, 35)])
+    entries = translate(Picture(40, 400), b"", [Figure(RECTANGLE, 1, 9, 7, 2, 3, 0, 0)])
+    # Top left (2, 3): EAD 120, dot 2; height 5, width 8.
+    check("rectangle entries", entries[2:],
+          [0x121, 0x149, 120, 0, 0x20, 0x178, 0xFF, 0xFF, 0x14C, 0x40, 3, 0,
+           4, 0, 7, 0, 0xFF, 0x3F, 4, 0, 0x16C])
+    entries = translate(Picture(40, 400), rows, [Figure(GLYPH, 0, 17, 5, 0, 0, 0, 3)])
+    # Bottom left (17, 28): EAD 28 * 40 + 1 = 1121 = 0461, dot 1.
+    check("glyph entries", entries[2:],
+          [0x120, 0x146, 2, 0x149, 0x61, 0x04, 0x10, 0x178, 1, 0, 0, 0, 0, 0, 0, 0x80,
+           0x14C, 0x12, 7, 0, 0x168])
+    entries = translate(Picture(40, 400), b"", [Figure(RECTANGLE, 1, 3, 0, 0, 0, 0, 0)])
+    check("flat rectangle is a line", entries[11:20], [0x09, 3, 0, 0xFD, 0x3F, 0xFA, 0x3F, 0, 0])
+    entries = translate(Picture(40, 400), b"", [Figure(RECTANGLE, 1, 3, 3, 3, 3, 0, 0)])
+    check("one dot is a line", entries[11:20], [0x08, 0, 0, 0, 0, 0, 0, 0, 0])
+
+
+def check_the_listing():
+    sheet = block(0, 1, 1, ["01031100020000000000"])
+    check("the check of the worked sheet", sheet[510:], bytes([0x49, 0x20]))
+    bench = Bench()
+    bench.answer("B " + sheet.hex().upper())
+    check("the worked sheet", bench.answer("T D"),
+          "T 0 D 0 0147 0028 0123 0149 0051 0000 0010 0178 00FF 00FF 014C 0002 016C")
+    check("one entry too few", bench.answer("T C"), "T 14 D 0")
+
+
+def check_ports():
+    talk("K12", "C 49; P 51; P 00; P 10; C E0; U 20; R; R; R; R; R; R",
+         "U 0 5 2; R 0 51; R 0 0; R 0 0; R 0 2; R 0 0; R 5 0")
+    talk("the seventeenth byte", "; ".join(["P 1"] * 17 + ["S", "C 6B", "C 0", "S"]),
+         "P 3; S 2; C 3; S 4")
+    talk("WDAT 30 with AB", "W 0 1234; C 4A; P FF; P FF; C 30; P AB; U 20; V 0 1",
+         "U 0 5 2; V AB")
+    talk("a parameter in read mode", "C E0; U 1; P 1; R; R; R; R; R; P 1; C 6B; P 1; S",
+         "U 0 1 1; P 4; R 0 0; R 0 0; R 0 0; R 0 0; R 0 0; P 4; S 0")
+    talk("the pen", "L 40000; L 3FFFF; S; C C0; U 5; S; R; R; R",
+         "L 6; S 84; U 0 1 2; S 1; R 0 FF; R 0 FF; R 0 3")
+    talk("RESET loads eight", "C 0; P 1; P 2; P 3; P 4; P 5; P 6; P 7; P 8; P 9; U 20; D",
+         "U 0 9 2; D 0 0 0 0 8 8 3FFF 3FFF 0 0 0 0 %s 0102030405060708 000000 0 0 0 0 0 0"
+         % ("00" * 16))
+
+
+def check_figures():
+    # K11: a rectangle with D = D2 = 0 takes only its commands' units: FIGS,
+    # its seven parameters and FIGD.
+    talk("K11", "C 4C; P 40; P 3; P 0; P 0; P 0; P 0; P 0; C 6C; U 100; V 0 8", "U 0 9 2; V 0 0 0 0 0 0 0 0")
+    # K8 on the chip, pitch 1: six dots on rows 0 0 1 1 2 2; 27 entries (WDAT,
+    # PITCH 2, CURS 4, PRAM 3, FIGS 10, FIGD) and 6 dots.
+    talk("K8 drawn", "C 23; C 47; P 1; C 49; P 0; P 0; P 0; C 78; P FF; P FF; U A; "
+         "C 4C; P 9; P 5; P 0; P FF; P 3F; P FA; P 3F; P 4; P 0; C 6C; U 11; V 0 4; D",
+         "U 0 A 1; U 0 11 1; V 3 C 30 0; "
+         "D 2 20 1 5 3FFF 3FFA 4 3FFF 9 0 3 0 0000000000000000FFFF000000000000 "
+         "0000000000000000 000000 0 0 0 0 0 0")
+    # A figure of one dot takes two units, with bit 3 set between them.
+    talk("one dot", "C 6C; U 1; S; U 1; S", "U 0 1 1; S C; U 0 1 1; S 4")
+    # Slip: the flat rectangle sent as a rectangle flips dots 1 and 2 twice.
+    talk("flat rectangle on the chip",
+         "C 21; C 78; P FF; P FF; C 49; P 0; P 0; P 0; U 10; "
+         "C 4C; P 40; P 3; P 0; P 0; P 0; P 3; P 0; C 6C; U 40; V 0 1",
+         "U 0 8 2; U 0 F 2; V 9")
+
+
+def check_characters():
+    # Two rows of two dots (DC 1, D 2) along right, then up; pitch 1, start
+    # at word 5, dot 15. Row 0 uses RA15 = 2: its dot 1, bit 0 of word 6, is
+    # set. Row 1 starts at word 4, dot 15 and uses RA14 = 1: its dot 0 is set;
+    # its dot 1, bit 0 of word 5, stays, and EAD and mask stay there.
+    talk("rows return to their start",
+         "C 23; C 47; P 1; C 49; P 5; P 0; P F0; C 7E; P 1; P 2; U 20; "
+         "C 4C; P 12; P 1; P 0; P 2; P 0; C 68; U 20; V 4 3; D",
+         "U 0 A 2; U 0 B 2; V 8000 0 1; "
+         "D 5 1 1 1 2 8 3FFF 3FFF 12 0 3 0 00000000000000000000000000000102 "
+         "0000000000000000 000000 0 0 0 0 0 0")
+
+
+# The eight directions as (right, down), to follow a figure in the plane.
+VECTORS = [(0, 1), (1, 1), (1, 0), (1, -1), (0, -1), (-1, -1), (-1, 0), (-1, 1)]
+
+
+def drawn_dots(figs, numbers, start):
+    # What a figure of SET dots from (40, 40) leaves in a picture 96 dots
+    # wide, as a set of (x, y); RA8 and RA9 are FF, RA14 is 06, RA15 is 05.
+    bench = Bench()
+    script = ["M 400", "C 23", "C 46", "P 1", "C 47", "P 6", "C 78", "P FF", "P FF", "U 20",
+              "C 7E", "P 6", "P 5", "C 49", "P F2", "P 0", "P 80", "U 20", "C 4C", "P %X" % figs]
+    script += ["P %X" % byte for number in numbers for byte in (number, 0)]
+    for line in script + ["U 20", "C %X" % start, "U FFFF"]:
+        bench.answer(line)
+    return {(16 * (place % 6) + bit, place // 6) for place, word in enumerate(bench.chip.memory)
+            for bit in range(16) if word >> bit & 1}
+
+
+def check_figures_in_the_plane():
+    # EAD F2 is 242 = 40 * 6 + 2, dot 8: the start is (40, 40).
+    for direction in range(8):
+        right, down = VECTORS[direction]
+        across, below = VECTORS[(direction + 2) % 8]
+        check("dots along %d" % direction, drawn_dots(direction, [4], 0x6C),
+              {(40 + i * right, 40 + i * down) for i in range(5)})
+        border = {(40 + i * right + j * across, 40 + i * down + j * below)
+                  for i in range(6) for j in range(4) if i in (0, 5) or j in (0, 3)}
+        check("rectangle along %d" % direction, drawn_dots(0x40 + direction, [3, 5, 3], 0x6C), border)
+        # Two rows of three dots by factor 2: row 0 is 101 (RA15), row 1 is
+        # 011 from its start (RA14).
+        ones = {(0, 0), (0, 2), (1, 1), (1, 2)}
+        dots_set = {(40 + (2 * c + i) * right + (2 * r + j) * across,
+                     40 + (2 * c + i) * down + (2 * r + j) * below)
+                    for r, c in ones for i in (0, 1) for j in (0, 1)}
+        check("character along %d" % direction, drawn_dots(0x10 + direction, [1, 3], 0x68), dots_set)
+
+
+def check_reads():
+    talk("RDAT words", "W 0 1234; W 1 5678; C 4C; P 2; P 2; P 0; C A0; P 7; U 100; R; R; R; R; R; D",
+         "U 0 7 2; R 0 34; R 0 12; R 0 78; R 0 56; R 5 0; "
+         "D 2 0 0 2 8 8 3FFF 3FFF 2 0 0 0 %s 0000000000000000 000000 0 0 0 0 1 0" % ("00" * 16))
+    talk("a read awaits room", "C 4C; P 2; P 9; P 0; C A0; U 100; S; U 0; R; U 5; R; U 5; S",
+         "U 0 D 3; S 3; U 0 0 1; R 0 0; U 0 0 3; R 0 0; U 0 1 2; S 3")
+    talk("a read of nothing", "C A0; P 1; U 5; S; R; P 1", "U 0 1 2; S 4; R 5 0; P 4")
+
+
+def check_refusals():
+    good = ["01030000000000000000"]
+    cases = [
+        ("11", (0, 400), b"", block(0, 1, 1, good), "T B 0 0"),
+        ("11", (64, 4097), b"", b"", "T B 0 0"),
+        ("11", (255, 1029), b"", b"", "T B 0 0"),
+        ("12", (1, 1), b"1234567", b"", "T C 0 0"),
+        ("12", (1, 1), bytes(2056), b"", "T C 0 0"),
+        ("13", (1, 1), b"", b"", "T D 0 0"),
+        ("13", (1, 1), b"", bytes(17 * 512), "T D 0 0"),
+        ("14", (1, 1), b"", bytes(512), "T E 0 0"),
+        ("15", (1, 1), b"", block(0, 51, 1, []), "T F 0 0"),
+        ("15", (1, 1), b"", block(0, 0, 0, []), "T F 0 0"),
+        ("15", (1, 1), b"", block(0, 0, 1, [], (509, 1)), "T F 0 0"),
+        ("15", (1, 1), b"", block(0, 1, 1, good, (14, 1)), "T F 0 0"),
+        ("15", (1, 1), b"", block(0, 0, 0, []) + block(2, 0, 1, []), "T F 1 0"),
+        ("16", (1, 1), b"", block(0, 2, 1, good), "T 10 0 1"),
+        ("16", (1, 1), b"", block(0, 1, 1, ["01040000000000000000"]), "T 10 0 0"),
+        ("17", (1, 8), bytes(8), block(0, 1, 1, ["04000000000001000000"]), "T 11 0 0"),
+        ("18", (1, 8), bytes(8), block(0, 1, 1, ["04000000000000000000"]), "T 12 0 0"),
+        ("18", (1, 8), bytes(8), block(0, 1, 1, ["04000000000000110000"]), "T 12 0 0"),
+        ("19", (1, 8), bytes(8), block(0, 1, 1, ["04000900000000010000"]), "T 13 0 0"),
+        ("19", (1, 1), b"", block(0, 1, 1, ["01001000000000000000"]), "T 13 0 0"),
+        ("20", (1, 1), b"", block(0, 1, 1, good), "T 14 D 0"),
+        ("none", (1, 8), bytes(8), block(0, 0, 1, []), "T 0 2 0 0147 0001"),
+    ]
+    for what, (p, h), glyphs, sheet, expected in cases:
+        bench = Bench()
+        bench.picture, bench.glyphs, bench.sheet = Picture(p, h), glyphs, sheet
+        check("refusal " + what, bench.answer("T 2"), expected)
+
+
+def check_language():
+    # FNV-1a of the six letters "foobar" is BF9CF968, of nothing 811C9DC5.
+    check("digest", digest([0x6F66, 0x626F, 0x7261]), 0xBF9CF968)
+    check("digest of nothing", digest([]), 0x811C9DC5)
+    for line in ("", " ", "S ", " S", "S 1", "C", "C 100", "C fF", "C  1", "C 0x1", "C 1 2",
+                 "W 10 1", "W 0 10000", "V 10 0", "V F 2", "U 100000000", "L 100000000",
+                 "Q 1", "B 1", "B 0g", "G 123", "B", "T", "X 1", "c 1", "?", "M", "M G",
+                 "G " + "00" * 4097, "B " + "00" * 8705, "U " + "0" * 19998 + "1"):
+        check("line %r" % line[:20], Bench().answer(line), "?")
+    check("leading zeros", Bench().answer("U " + "0" * 19997 + "1"), "U 0 0 2")
+    check("no words", Bench().answer("V F 0"), "V")
+    check("no glyphs", Bench().answer("G"), "G 0")
+
+
+def check_demand_3_by_hand():
+    # The worked sheet drawn: dot (17, 2) of a picture 40 wide is bit 1 of
+    # word 81. Units: the thirteen entries and the one dot.
+    bench = Bench()
+    bench.answer("M 4000")
+    bench.answer("B " + block(0, 1, 1, ["01031100020000000000"]).hex().upper())
+    check("drawn", bench.answer("X"), "X 0 D 0 E")
+    check("the dot", bench.answer("V 50 3"), "V 0 2 0")
+
+
+def main():
+    check_logic_unit()
+    check_steps()
+    check_names()
+    check_lines()
+    check_smallest_directions()
+    check_rectangles_and_glyphs()
+    check_the_listing()
+    check_ports()
+    check_figures()
+    check_characters()
+    check_figures_in_the_plane()
+    check_reads()
+    check_refusals()
+    check_language()
+    check_demand_3_by_hand()
+    print("%d checks, %d wrong" % (checks, wrong))
+    return 1 if wrong else 0
+
+
+if __name__ == "__main__":
+    sys.exit(main())

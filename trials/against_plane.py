@@ -1,0 +1,80 @@
+"""The controller against the geometry, on many random sheets.
+
+    python3 against_plane.py --sheets N --seed S
+
+Each sheet is translated and drawn by the model of the controller from a
+random register set (write mode, empty buffer, nothing being drawn), and the
+memory is held against what plane.py paints. The first difference stops the
+program with the `assert` in bench.py. It tries the second program against
+itself and has no part in comparing it with the proved program.
+"""
+
+import argparse
+import os
+import sys
+import time
+
+HERE = os.path.dirname(os.path.abspath(__file__))
+sys.path.insert(0, os.path.join(HERE, os.pardir, "second"))
+
+import generate                      # noqa: E402
+from bench import Bench              # noqa: E402
+from chip import Chip                # noqa: E402
+
+
+class Maker(generate.Generator):
+    """The generator's sheets, with larger figures now and then."""
+
+    def near(self, value, limit):
+        if self.chance(0.1):
+            return self.pick([0, limit - 1, self.below(limit)])
+        return generate.Generator.near(self, value, limit)
+
+
+def random_registers(chip, random):
+    chip.ead, chip.mask = random.randrange(0x40000), random.randrange(0x10000)
+    chip.pitch, chip.figs = random.randrange(256), random.randrange(256)
+    chip.dc, chip.d, chip.d2, chip.d1, chip.dm = [random.randrange(0x4000) for _ in range(5)]
+    chip.gd, chip.operation, chip.zoom = random.randrange(2), random.randrange(4), random.randrange(256)
+    chip.pram = [random.randrange(256) for _ in range(16)]
+    chip.command = random.choice([None, random.randrange(256)])
+    chip.taken = random.randrange(14)
+    if chip.command in (0x20, 0x21, 0x22, 0x23) and random.random() < 0.5:
+        chip.half_word = random.randrange(256)
+
+
+def one_sheet(maker, bench):
+    maker.lines = []
+    maker.length = maker.random.choices(generate.LENGTHS, generate.LENGTH_WEIGHTS)[0]
+    words = maker.below(min(255, maker.length)) + 1
+    if maker.chance(0.5):
+        words = maker.below(min(12, maker.length)) + 1
+    height = min(4096, maker.length // words)
+    maker.set_picture(words, height if maker.chance(0.5) else maker.below(height) + 1)
+    maker.choose_glyphs(maker.pick([1, 2, 3, 256]) if maker.chance(0.3) else 2)
+    bodies, needed = maker.random_blocks()
+    maker.emit_sheet(b"".join(generate.with_check(body) for body in bodies))
+    bench.chip = Chip(maker.length)
+    bench.chip.memory = [maker.random.getrandbits(16) for _ in range(maker.length)]
+    random_registers(bench.chip, maker.random)
+    for line in maker.lines:
+        assert bench.answer(line).endswith(" 0"), line
+    assert bench.may_be_held_to_the_geometry()
+    answer = bench.answer("X").split(" ")
+    assert answer[:4] == ["X", "0", "%X" % needed, "0"], answer
+    return int(answer[4], 16)
+
+
+def main():
+    parser = argparse.ArgumentParser(description="the controller against the geometry")
+    parser.add_argument("--sheets", type=int, default=1000)
+    parser.add_argument("--seed", type=int, default=1)
+    wanted = parser.parse_args()
+    maker, bench = Maker(wanted.seed), Bench()
+    start = time.time()
+    units = sum(one_sheet(maker, bench) for _ in range(wanted.sheets))
+    print("%d sheets, %d units, no difference, %.0f s" % (wanted.sheets, units, time.time() - start))
+
+
+if __name__ == "__main__":
+    main()
