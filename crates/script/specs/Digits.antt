@@ -1,8 +1,9 @@
--- A field of a script's line: uppercase hexadecimal digits.
-use Prim.Native.Nat.{ℕ, _+_, _-_, _*_}
+-- A field of a script's line: uppercase hexadecimal digits, as a number and as bytes.
+use Prim.Native.Nat.{ℕ, _+_, _-_, _*_, _%_}
 use mathlib.Core.List.{List, [], _∷_}
-use mathlib.Core.Bool.{Bool, true, false, cond, _&&_, not}
+use mathlib.Core.Bool.{Bool, true, false, cond}
 use lib.Dec.{ltb, leb, eqb}
+use lib.ListN.{length, set}
 use Rattle.script.specs.declared.Number.{Number}
 use Rattle.script.specs.declared.Number.the-variants.{Bad, Is}
 
@@ -21,5 +22,22 @@ numberFrom n (b ∷ l) = cond (eqb (digitOf b) 16) Bad (numberFrom (more n (digi
 
 -- one digit or more
 unfoldable pub numberOf : List ℕ → Number
-numberOf [] = Bad
-numberOf (b ∷ l) = numberFrom 0 (b ∷ l)
+numberOf s = cond (eqb (length s) 0) Bad (numberFrom 0 s)
+
+unfoldable pub digitsB : List ℕ → Bool
+digitsB [] = true
+digitsB (b ∷ l) = cond (eqb (digitOf b) 16) false (digitsB l)
+
+-- one byte or more, of two digits each
+unfoldable pub bytesB : List ℕ → Bool
+bytesB s = cond (eqb (length s) 0) false (cond (eqb (length s % 2) 1) false (digitsB s))
+
+-- the byte that two digits make
+abbrev pub byteOf : ℕ → ℕ → ℕ
+byteOf h l = 16 * (digitOf h % 16) + digitOf l % 16
+
+-- the bytes of a field, from a place of a buffer on, as far as there is room
+unfoldable pub bytesPut : List ℕ → ℕ → List ℕ → List ℕ
+bytesPut to at [] = to
+bytesPut to at (h ∷ []) = to
+bytesPut to at (h ∷ l ∷ r) = cond (leb (length to) at) to (bytesPut (set to at (byteOf h l)) (at + 1) r)

@@ -2,10 +2,8 @@
 ghost use mathlib.Core.Path.{_≡_};
 ghost use Prim.Native.Nat.{_≤_};
 ghost use lib.ListN.{length};
-ghost use Rattle.script.specs.Digits.{digitOf, more, numberOf};
-
-// The most characters that a line may have.
-pub const LONGEST: usize = 20000;
+ghost use Rattle.script.specs.Digits.{digitOf, more, numberOf, bytesB, byteOf, bytesPut};
+ghost use Rattle.script.specs.Line.{spanOf, oneOf, twoOf, fieldsOf, lineOf};
 
 // What a field says, if it is a number.
 pub enum Number {
@@ -23,7 +21,7 @@ pub enum Line {
 }
 
 // A digit's value; 16 where the character is no digit.
-pub fn digit_of(b: u8) -> u8
+fn digit_of(b: u8) -> u8
     ensures { λ r. ⌜ r ≡ digitOf b ⌝ }
 {
     if b < 48 {
@@ -52,7 +50,7 @@ fn with_digit(n: u64, d: u8) -> u64
 }
 
 // A field of digits.
-pub fn number(s: &[u8]) -> Number
+fn number_of(s: &[u8]) -> Number
     ensures { λ r. ⌜ r ≡ numberOf (now (s .entry)) ⌝ }
 {
     if s.len() == 0 {
@@ -71,31 +69,32 @@ pub fn number(s: &[u8]) -> Number
     Number::Is(n)
 }
 
-// Where the first space from a place on stands, or the line ends.
-fn end_of(s: &[u8], from: usize) -> usize
-    ensures { λ r. ⌜ r ≤ length (now (s .entry)) ⌝ }
+// Where the first space stands, or the end.
+fn end_of(s: &[u8]) -> usize
+    ensures { λ r. ⌜ (r ≤ length (now (s .entry))) × (r ≡ spanOf (now (s .entry))) ⌝ }
 {
-    let mut i = from;
+    let mut i: usize = 0;
     while i < s.len() {
-        if s[i] == b' ' {
+        if s[i] == 32 {
             return i;
         }
         i += 1;
     }
-    s.len()
+    i
 }
 
-fn one_field(letter: u8, field: &[u8]) -> Line {
-    let a = number(field);
+fn one_field(letter: u8, a: Number) -> Line
+    ensures { λ r. ⌜ r ≡ oneOf letter a ⌝ }
+{
     match a {
-        Number::Is(n) => Line::One(letter, n),
         Number::Bad => Line::Bad,
+        Number::Is(n) => Line::One(letter, n),
     }
 }
 
-fn two_fields(letter: u8, first: &[u8], second: &[u8]) -> Line {
-    let a = number(first);
-    let b = number(second);
+fn two_fields(letter: u8, a: Number, b: Number) -> Line
+    ensures { λ r. ⌜ r ≡ twoOf letter a b ⌝ }
+{
     let Number::Is(m) = a else {
         return Line::Bad;
     };
@@ -105,42 +104,60 @@ fn two_fields(letter: u8, first: &[u8], second: &[u8]) -> Line {
     Line::Two(letter, m, n)
 }
 
-// The fields of a line whose second character is a space.
-fn fields(letter: u8, s: &[u8]) -> Line {
-    let e = end_of(s, 0);
+// One field, or two.
+fn fields(letter: u8, s: &[u8]) -> Line
+    ensures { λ r. ⌜ r ≡ fieldsOf letter (now (s .entry)) ⌝ }
+{
+    let e = end_of(s);
     if e == s.len() {
-        return one_field(letter, s);
+        return one_field(letter, number_of(s));
     }
     let next = e + 1;
-    two_fields(letter, &s[..e], &s[next..])
+    let a = number_of(&s[..e]);
+    let b = number_of(&s[next..]);
+    two_fields(letter, a, b)
 }
 
 // What a line says; of more than 20,000 characters: nothing.
-pub fn read_line(s: &[u8]) -> Line {
-    if s.len() == 0 || LONGEST < s.len() {
+pub fn read_line(s: &[u8]) -> Line
+    ensures { λ r. ⌜ r ≡ lineOf (now (s .entry)) ⌝ }
+{
+    if s.len() == 0 {
+        return Line::Bad;
+    }
+    if 20000 < s.len() {
         return Line::Bad;
     }
     let letter = s[0];
     if s.len() == 1 {
         return Line::Bare(letter);
     }
-    if s[1] != b' ' {
+    if s[1] != 32 {
         return Line::Bad;
     }
-    if letter == b'G' || letter == b'B' {
+    if letter == b'G' {
+        return Line::Bytes(letter);
+    }
+    if letter == b'B' {
         return Line::Bytes(letter);
     }
     fields(letter, &s[2..])
 }
 
 // One byte or more, of two digits each.
-pub fn bytes_right(s: &[u8]) -> bool {
-    if s.len() == 0 || s.len() % 2 == 1 {
+pub fn bytes_right(s: &[u8]) -> bool
+    ensures { λ r. ⌜ r ≡ bytesB (now (s .entry)) ⌝ }
+{
+    if s.len() == 0 {
+        return false;
+    }
+    if s.len() % 2 == 1 {
         return false;
     }
     let mut i: usize = 0;
     while i < s.len() {
-        if digit_of(s[i]) == 16 {
+        let d = digit_of(s[i]);
+        if d == 16 {
             return false;
         }
         i += 1;
@@ -149,15 +166,22 @@ pub fn bytes_right(s: &[u8]) -> bool {
 }
 
 // The byte that two digits make.
-fn byte_of(high: u8, low: u8) -> u8 {
-    digit_of(high) % 16 * 16 + digit_of(low) % 16
+fn byte_of(high: u8, low: u8) -> u8
+    ensures { λ r. ⌜ r ≡ byteOf high low ⌝ }
+{
+    16 * (digit_of(high) % 16) + digit_of(low) % 16
 }
 
 // The bytes of a field go into a buffer, from a place on, as far as there is room.
-pub fn put_bytes(s: &[u8], to: &mut [u8], from: usize) {
+pub fn put_bytes(s: &[u8], to: &mut [u8], from: usize)
+    ensures { λ _. ⌜ now (to .exit) ≡ bytesPut (now (to .entry)) from (now (s .entry)) ⌝ }
+{
     let mut i: usize = 0;
     let mut at = from;
-    while i + 1 < s.len() && at < to.len() {
+    while i + 1 < s.len() {
+        if to.len() <= at {
+            return;
+        }
         to[at] = byte_of(s[i], s[i + 1]);
         i += 2;
         at += 1;
