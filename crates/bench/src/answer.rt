@@ -2,6 +2,7 @@
 use crate::controller;
 use crate::desk::Desk;
 use crate::output::unknown;
+use crate::reader::within;
 use crate::sheet;
 use script::Line;
 
@@ -78,8 +79,8 @@ fn bytes(
     }
 }
 
-// A line is answered.
-pub fn answer(
+// What a line asks for is done.
+fn asked(
     d: Desk,
     line: &[u8],
     mem: &mut [u16],
@@ -96,4 +97,19 @@ pub fn answer(
         Line::Two(letter, a, b) => two(d, letter, a, b, mem, out),
         Line::Bytes(letter) => bytes(d, letter, line, glyphs, sheet, out),
     }
+}
+
+// A line of that length is answered.
+pub fn answer(
+    d: Desk,
+    line: &[u8],
+    length: usize,
+    mem: &mut [u16],
+    glyphs: &mut [u8],
+    sheet: &mut [u8],
+    entries: &mut [u16],
+    out: &mut [u8],
+) -> Desk {
+    let n = within(length, line);
+    asked(d, &line[..n], mem, glyphs, sheet, entries, out)
 }

@@ -3,15 +3,20 @@ use crate::desk::Desk;
 use crate::desk::with_held;
 use crate::desk::with_regs;
 use crate::output;
-use crate::output::short;
+use crate::output::line;
 use crate::output::unknown;
-use crate::reader::least;
+use crate::reader::words_within;
 use ports::Answer;
+use registers::Registers;
+use units::Ran;
 
 // The first n words are zero.
 fn clear(mem: &mut [u16], n: usize) {
     let mut i: usize = 0;
-    while i < n && i < mem.len() {
+    while i < n {
+        if mem.len() <= i {
+            return;
+        }
         mem[i] = 0;
         i += 1;
     }
@@ -19,33 +24,40 @@ fn clear(mem: &mut [u16], n: usize) {
 
 // `M n`: fresh registers and a memory of n zero words.
 pub fn new_memory(d: Desk, n: u64, mem: &mut [u16], out: &mut [u8]) -> Desk {
-    if 262144 < n {
-        return short(d, out, b'M', 2);
-    }
     let words = n as usize;
     if !units::length_right(words) {
-        return short(d, out, b'M', 2);
+        return line(d, out, b'M', &[2]);
     }
     clear(mem, words);
     let mut e = with_regs(d, registers::fresh());
     e.words = words;
-    short(e, out, b'M', 0)
+    line(e, out, b'M', &[0])
+}
+
+fn store(mem: &mut [u16], at: usize, v: u16) {
+    if at < mem.len() {
+        mem[at] = v;
+    }
 }
 
 // `W a v`: a word of the memory.
 pub fn set_word(d: Desk, a: u64, v: u64, mem: &mut [u16], out: &mut [u8]) -> Desk {
-    if d.words as u64 <= a || 65535 < v || mem.len() as u64 <= a {
+    let at = a as usize;
+    if d.words <= at {
         return unknown(d, out);
     }
-    mem[a as usize] = v as u16;
-    short(d, out, b'W', 0)
+    if 65535 < v {
+        return unknown(d, out);
+    }
+    store(mem, at, v as u16);
+    line(d, out, b'W', &[0])
 }
 
 // The registers that a port answers, and the number of its refusal.
 fn answered(d: Desk, letter: u8, a: Answer, out: &mut [u8]) -> Desk {
     let r = a.regs;
     let e = with_regs(d, r);
-    short(e, out, letter, a.number as u64)
+    line(e, out, letter, &[a.number as u64])
 }
 
 // `C b`
@@ -79,19 +91,26 @@ pub fn light_pen(d: Desk, a: u64, out: &mut [u8]) -> Desk {
 pub fn read(d: Desk, out: &mut [u8]) -> Desk {
     let r = d.regs;
     let a = ports::read_byte(r);
-    let s = a.regs;
-    let b = output::character(out, d.held, b'R');
-    let c = output::field(out, b, a.number as u64);
-    let e = output::field(out, c, a.value as u64);
-    let f = output::character(out, e, b'\n');
-    with_held(with_regs(d, s), f)
+    let q = a.regs;
+    line(
+        with_regs(d, q),
+        out,
+        b'R',
+        &[a.number as u64, a.value as u64],
+    )
 }
 
 // `S`
 pub fn status(d: Desk, out: &mut [u8]) -> Desk {
     let r = d.regs;
     let a = ports::read_status(r);
-    short(d, out, b'S', a.value as u64)
+    line(d, out, b'S', &[a.value as u64])
+}
+
+// A run over the words that the memory has.
+fn run_within(r: Registers, mem: &mut [u16], words: usize, budget: u32) -> Ran {
+    let n = words_within(words, mem);
+    units::run(r, &mut mem[..n], budget)
 }
 
 // `U n`
@@ -100,54 +119,48 @@ pub fn run(d: Desk, budget: u64, mem: &mut [u16], out: &mut [u8]) -> Desk {
         return unknown(d, out);
     }
     let r = d.regs;
-    let n = least(d.words, mem.len());
-    let a = units::run(r, &mut mem[..n], budget as u32);
-    let s = a.regs;
-    let b = output::character(out, d.held, b'U');
-    let c = output::field(out, b, a.number as u64);
-    let e = output::field(out, c, a.count as u64);
-    let f = output::field(out, e, a.why as u64);
-    let g = output::character(out, f, b'\n');
-    with_held(with_regs(d, s), g)
+    let a = run_within(r, mem, d.words, budget as u32);
+    let q = a.regs;
+    line(
+        with_regs(d, q),
+        out,
+        b'U',
+        &[a.number as u64, a.count as u64, a.why as u64],
+    )
 }
 
 // `D`
 pub fn list(d: Desk, out: &mut [u8]) -> Desk {
     let r = d.regs;
     let a = output::character(out, d.held, b'D');
-    let b = crate::listed::fields(out, a, r);
-    let c = output::character(out, b, b'\n');
-    with_held(d, c)
-}
-
-fn words(out: &mut [u8], held: usize, mem: &[u16]) -> usize {
-    let mut n = held;
-    let mut i: usize = 0;
-    while i < mem.len() {
-        n = output::field(out, n, mem[i] as u64);
-        i += 1;
-    }
-    n
+    let b = crate::listed::registers(out, a, r);
+    with_held(d, output::character(out, b, b'\n'))
 }
 
 // `V a n`
 pub fn view(d: Desk, a: u64, n: u64, mem: &[u16], out: &mut [u8]) -> Desk {
-    let most = least(d.words, mem.len()) as u64;
-    if most <= a || most - a < n {
+    let most = words_within(d.words, mem);
+    let from = a as usize;
+    let count = n as usize;
+    if most <= from {
         return unknown(d, out);
     }
-    let from = a as usize;
-    let to = (a + n) as usize;
+    if most - from < count {
+        return unknown(d, out);
+    }
+    let to = from + count;
     let b = output::character(out, d.held, b'V');
-    let c = words(out, b, &mem[from..to]);
-    let e = output::character(out, c, b'\n');
-    with_held(d, e)
+    let c = output::words(out, b, &mem[from..to], 1);
+    with_held(d, output::character(out, c, b'\n'))
+}
+
+fn crossed(h: u32, b: u16) -> u32 {
+    h ^ (b as u32)
 }
 
 // FNV-1a with a byte more.
 fn mixed(h: u32, b: u16) -> u32 {
-    let x = h ^ (b as u32);
-    (x as u64 * 16777619 % 4294967296) as u32
+    (crossed(h, b) as u64 * 16777619 % 4294967296) as u32
 }
 
 // FNV-1a over every word, low byte first.
@@ -164,11 +177,9 @@ fn digest_of(mem: &[u16]) -> u32 {
 
 // `H`
 pub fn digest(d: Desk, mem: &[u16], out: &mut [u8]) -> Desk {
-    let n = least(d.words, mem.len());
+    let n = words_within(d.words, mem);
     let h = digest_of(&mem[..n]);
     let a = output::character(out, d.held, b'H');
-    let b = output::character(out, a, b' ');
-    let c = output::number(out, b, h as u64, 8);
-    let e = output::character(out, c, b'\n');
-    with_held(d, e)
+    let b = output::padded(out, a, h as u64, 8);
+    with_held(d, output::character(out, b, b'\n'))
 }

@@ -1,12 +1,8 @@
 // The registers as a line.
-use crate::output::field;
-use crate::output::flag;
+use crate::output::fields;
 use crate::output::pairs;
-use dots::Cursor;
 use dots::Operation;
-use registers::Drawing;
 use registers::Mode;
-use registers::Pen;
 use registers::Registers;
 use registers::Video;
 
@@ -26,52 +22,60 @@ fn mode_number(m: Mode) -> u64 {
     }
 }
 
-// ead mask pitch
-fn cursor(out: &mut [u8], held: usize, c: Cursor, pitch: u8) -> usize {
-    let a = field(out, held, c.ead as u64);
-    let b = field(out, a, c.mask as u64);
-    field(out, b, pitch as u64)
+fn bit(t: bool) -> u64 {
+    if t { 1 } else { 0 }
 }
 
-// dc d d2 d1 dm figs gd; figs is FIGS' first byte.
-fn drawing(out: &mut [u8], held: usize, f: Drawing) -> usize {
-    let a = field(out, held, f.dc as u64);
-    let b = field(out, a, f.d as u64);
-    let c = field(out, b, f.d2 as u64);
-    let d = field(out, c, f.d1 as u64);
-    let e = field(out, d, f.dm as u64);
-    let g = field(out, e, 8 * f.kind as u64 + f.dir as u64);
-    flag(out, g, f.gd)
+// ead mask pitch dc d d2 d1 dm figs gd op zoom; figs is FIGS' first byte.
+fn first(r: Registers) -> [u64; 12] {
+    let op = r.op;
+    let c = r.cursor;
+    let f = r.drawing;
+    [
+        c.ead as u64,
+        c.mask as u64,
+        r.pitch as u64,
+        f.dc as u64,
+        f.d as u64,
+        f.d2 as u64,
+        f.d1 as u64,
+        f.dm as u64,
+        8 * f.kind as u64 + f.dir as u64,
+        bit(f.gd),
+        operation_number(op),
+        r.video.zoom as u64,
+    ]
 }
 
-// sync cchar vsync display
-fn video(out: &mut [u8], held: usize, v: Video) -> usize {
+// pram sync cchar
+fn stored(out: &mut [u8], held: usize, ram: [u8; 16], v: Video) -> usize {
     let sync = v.sync;
     let cchar = v.cchar;
-    let a = pairs(out, held, &sync);
-    let b = pairs(out, a, &cchar);
-    let c = flag(out, b, v.vsync);
-    flag(out, c, v.display)
+    let a = pairs(out, held, &ram);
+    let b = pairs(out, a, &sync);
+    pairs(out, b, &cchar)
 }
 
-// pen penset mode held
-fn last(out: &mut [u8], held: usize, p: Pen, m: Mode, count: u8) -> usize {
-    let a = field(out, held, p.address as u64);
-    let b = flag(out, a, p.set);
-    let c = field(out, b, mode_number(m));
-    field(out, c, count as u64)
+// vsync display pen penset mode held
+fn last(r: Registers) -> [u64; 6] {
+    let mode = r.mode;
+    let v = r.video;
+    let p = r.pen;
+    let b = r.buffer;
+    [
+        bit(v.vsync),
+        bit(v.display),
+        p.address as u64,
+        bit(p.set),
+        mode_number(mode),
+        b.count as u64,
+    ]
 }
 
 // The fields of the answer to `D`.
-pub fn fields(out: &mut [u8], held: usize, r: Registers) -> usize {
-    let op = r.op;
+pub fn registers(out: &mut [u8], held: usize, r: Registers) -> usize {
     let ram = r.ram;
-    let mode = r.mode;
-    let a = cursor(out, held, r.cursor, r.pitch);
-    let b = drawing(out, a, r.drawing);
-    let c = field(out, b, operation_number(op));
-    let d = field(out, c, r.video.zoom as u64);
-    let e = pairs(out, d, &ram);
-    let f = video(out, e, r.video);
-    last(out, f, r.pen, mode, r.buffer.count)
+    let a = fields(out, held, &first(r));
+    let b = stored(out, a, ram, r.video);
+    fields(out, b, &last(r))
 }

@@ -14,10 +14,9 @@ mod sheet;
 pub struct Bench {
     pub desk: Desk,
     pub reader: Reader,
-    pub ended: bool,
 }
 
-// Part of the script is taken in: a line that is now whole is answered, else more of the script is read.
+// A line is answered if one is whole, else more of the script is read, with all answers written out before.
 fn turn(
     b: Bench,
     input: &mut [u8],
@@ -29,37 +28,17 @@ fn turn(
     out: &mut [u8],
 ) -> Bench {
     let r = reader::take_line(input, b.reader, line);
-    let n = reader::least(r.length, line.len());
     if r.whole {
-        let d = answer::answer(b.desk, &line[..n], mem, glyphs, sheet, entries, out);
+        let d = answer::answer(b.desk, line, r.length, mem, glyphs, sheet, entries, out);
         return Bench {
             desk: d,
             reader: reader::past(r),
-            ended: false,
         };
     }
-    let written = output::flush(b.desk, out);
-    let filled = reader::fill(input);
-    if 0 < filled {
-        return Bench {
-            desk: written,
-            reader: Reader {
-                at: 0,
-                filled: filled,
-                length: r.length,
-                whole: false,
-            },
-            ended: false,
-        };
-    }
-    let mut last = written;
-    if 0 < n {
-        last = answer::answer(written, &line[..n], mem, glyphs, sheet, entries, out);
-    }
+    let d = output::flush(b.desk, out);
     Bench {
-        desk: output::flush(last, out),
-        reader: r,
-        ended: true,
+        desk: d,
+        reader: reader::refill(r, input),
     }
 }
 
@@ -76,16 +55,18 @@ fn turns(
     let mut b = Bench {
         desk: desk::start(),
         reader: reader::start(),
-        ended: false,
     };
     let mut left = u64::MAX;
     while 0 < left {
         b = turn(b, input, line, mem, glyphs, sheet, entries, out);
-        if b.ended {
-            return;
+        let r = b.reader;
+        if r.ended {
+            left = 0;
+        } else {
+            left -= 1;
         }
-        left -= 1;
     }
+    output::flush(b.desk, out);
 }
 
 // A line of 20,001 characters is held, so that a longer one than is lawful is seen.

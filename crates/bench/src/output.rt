@@ -1,13 +1,13 @@
 // The answers, held in a buffer until it is full or the script is to be waited for.
 use crate::desk::Desk;
+use crate::desk::with_held;
+use crate::reader::within;
 
 // What is held is written out.
 pub fn flush(d: Desk, out: &[u8]) -> Desk {
-    let held = d.held;
-    if held <= out.len() {
-        io::write_all(1, &out[..held]);
-    }
-    crate::desk::with_held(d, 0)
+    let n = within(d.held, out);
+    io::write_all(1, &out[..n]);
+    with_held(d, 0)
 }
 
 // One character more; a full buffer is written out first. The answer of this and of the next ones is how many are held.
@@ -29,6 +29,10 @@ fn upper(c: u8) -> u8 {
     if 97 <= c { c - 32 } else { c }
 }
 
+fn wide(b: u8) -> u64 {
+    b as u64
+}
+
 fn digits(out: &mut [u8], held: usize, text: &[u8]) -> usize {
     let mut n = held;
     let mut i: usize = 0;
@@ -40,24 +44,27 @@ fn digits(out: &mut [u8], held: usize, text: &[u8]) -> usize {
 }
 
 // A number in hexadecimal, of that many digits at the least.
-pub fn number(out: &mut [u8], held: usize, value: u64, width: usize) -> usize {
+fn number(out: &mut [u8], held: usize, value: u64, width: usize) -> usize {
     let mut text = [0u8; 16];
     let k = io::hex(value, width, &mut text);
     digits(out, held, &text[..k])
 }
 
-// A space and a number.
-pub fn field(out: &mut [u8], held: usize, value: u64) -> usize {
+// A space and a number of that many digits at the least.
+pub fn padded(out: &mut [u8], held: usize, value: u64, width: usize) -> usize {
     let n = character(out, held, b' ');
-    number(out, n, value, 1)
+    number(out, n, value, width)
 }
 
-// A space and a number of 0 or 1.
-pub fn flag(out: &mut [u8], held: usize, t: bool) -> usize {
-    if t {
-        return field(out, held, 1);
+// A space and a number, for each value.
+pub fn fields(out: &mut [u8], held: usize, values: &[u64]) -> usize {
+    let mut n = held;
+    let mut i: usize = 0;
+    while i < values.len() {
+        n = padded(out, n, values[i], 1);
+        i += 1;
     }
-    field(out, held, 0)
+    n
 }
 
 // A space and bytes of two digits each.
@@ -65,23 +72,40 @@ pub fn pairs(out: &mut [u8], held: usize, bytes: &[u8]) -> usize {
     let mut n = character(out, held, b' ');
     let mut i: usize = 0;
     while i < bytes.len() {
-        n = number(out, n, bytes[i] as u64, 2);
+        n = number(out, n, wide(bytes[i]), 2);
         i += 1;
     }
     n
 }
 
-// A line of a letter and one number.
-pub fn short(d: Desk, out: &mut [u8], letter: u8, value: u64) -> Desk {
-    let a = character(out, d.held, letter);
-    let b = field(out, a, value);
-    let c = character(out, b, b'\n');
-    crate::desk::with_held(d, c)
+fn wide_word(w: u16) -> u64 {
+    w as u64
+}
+
+// A space and a word of that many digits at the least, for each.
+pub fn words(out: &mut [u8], held: usize, values: &[u16], width: usize) -> usize {
+    let mut n = held;
+    let mut i: usize = 0;
+    while i < values.len() {
+        n = padded(out, n, wide_word(values[i]), width);
+        i += 1;
+    }
+    n
+}
+
+// A letter and numbers.
+pub fn begun(out: &mut [u8], held: usize, letter: u8, values: &[u64]) -> usize {
+    let a = character(out, held, letter);
+    fields(out, a, values)
+}
+
+// A whole line of a letter and numbers.
+pub fn line(d: Desk, out: &mut [u8], letter: u8, values: &[u64]) -> Desk {
+    let a = begun(out, d.held, letter, values);
+    with_held(d, character(out, a, b'\n'))
 }
 
 // The answer to a line that is not of the language.
 pub fn unknown(d: Desk, out: &mut [u8]) -> Desk {
-    let a = character(out, d.held, b'?');
-    let b = character(out, a, b'\n');
-    crate::desk::with_held(d, b)
+    line(d, out, b'?', &[])
 }

@@ -1,11 +1,15 @@
 // The script, read in large pieces and taken apart into lines.
+ghost use Rattle.io.specs.Counts.{Counts};
 
-// How far the piece is taken, how much of it there is, the characters of the line so far, and whether that line is whole.
+// How far the piece is taken, how much of it there is, the characters of the line so far, whether that line is whole,
+// whether the script has no more to read, and whether its last line is taken too.
 pub struct Reader {
     pub at: usize,
     pub filled: usize,
     pub length: usize,
     pub whole: bool,
+    pub closed: bool,
+    pub ended: bool,
 }
 
 pub fn start() -> Reader {
@@ -14,6 +18,8 @@ pub fn start() -> Reader {
         filled: 0,
         length: 0,
         whole: false,
+        closed: false,
+        ended: false,
     }
 }
 
@@ -24,16 +30,29 @@ pub fn past(r: Reader) -> Reader {
         filled: r.filled,
         length: 0,
         whole: false,
+        closed: r.closed,
+        ended: r.closed,
     }
 }
 
-pub fn least(a: usize, b: usize) -> usize {
-    if a < b { a } else { b }
+// The part of a buffer that is in use: n of its elements, or all where it has fewer.
+pub fn within(n: usize, buf: &[u8]) -> usize
+    ensures { λ r. ⌜ Counts r (now (buf .entry)) ⌝ }
+{
+    if n <= buf.len() { n } else { buf.len() }
+}
+
+// The same of words.
+pub fn words_within(n: usize, buf: &[u16]) -> usize
+    ensures { λ r. ⌜ Counts r (now (buf .entry)) ⌝ }
+{
+    if n <= buf.len() { n } else { buf.len() }
 }
 
 // Characters of the piece are added to the line up to its end, or to the piece's; those past the line's room are dropped.
+// A script that is closed ends its last line, if that has a character.
 pub fn take_line(input: &[u8], r: Reader, line: &mut [u8]) -> Reader {
-    let filled = least(r.filled, input.len());
+    let filled = within(r.filled, input);
     let mut at = r.at;
     let mut length = r.length;
     while at < filled {
@@ -45,6 +64,8 @@ pub fn take_line(input: &[u8], r: Reader, line: &mut [u8]) -> Reader {
                 filled: filled,
                 length: length,
                 whole: true,
+                closed: false,
+                ended: false,
             };
         }
         if length < line.len() {
@@ -56,12 +77,27 @@ pub fn take_line(input: &[u8], r: Reader, line: &mut [u8]) -> Reader {
         at: at,
         filled: filled,
         length: length,
-        whole: false,
+        whole: r.closed & (0 < length),
+        closed: r.closed,
+        ended: r.closed,
     }
 }
 
 // The next piece of the script: how long it is, 0 at the script's end.
-pub fn fill(input: &mut [u8]) -> usize {
+fn fill(input: &mut [u8]) -> usize {
     let got = libc::read(0, input);
     io::count(got, input)
+}
+
+// The next piece is read; with none the script is closed, and at its end where no line was begun.
+pub fn refill(r: Reader, input: &mut [u8]) -> Reader {
+    let n = fill(input);
+    Reader {
+        at: 0,
+        filled: n,
+        length: r.length,
+        whole: false,
+        closed: n == 0,
+        ended: (n == 0) & (r.length == 0),
+    }
 }

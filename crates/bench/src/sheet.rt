@@ -3,60 +3,70 @@ use crate::desk::Desk;
 use crate::desk::with_held;
 use crate::desk::with_regs;
 use crate::output;
-use crate::output::short;
+use crate::output::line;
 use crate::output::unknown;
-use crate::reader::least;
+use crate::reader::within;
+use crate::reader::words_within;
 use ports::Answer;
 use registers::Registers;
 
 // `Q p h`
 pub fn picture(d: Desk, p: u64, h: u64, out: &mut [u8]) -> Desk {
-    if 4294967295 < p || 4294967295 < h {
+    if 4294967295 < p {
+        return unknown(d, out);
+    }
+    if 4294967295 < h {
         return unknown(d, out);
     }
     let mut e = d;
     e.across = p as u32;
     e.down = h as u32;
-    short(e, out, b'Q', 0)
+    line(e, out, b'Q', &[0])
 }
 
 // `G` alone
 pub fn no_glyphs(d: Desk, out: &mut [u8]) -> Desk {
     let mut e = d;
     e.glyphs = 0;
-    short(e, out, b'G', 0)
+    line(e, out, b'G', &[0])
 }
 
 // `G hex`
 pub fn new_glyphs(d: Desk, hex: &[u8], glyphs: &mut [u8], out: &mut [u8]) -> Desk {
     let n = hex.len() / 2;
-    if glyphs.len() < n || !script::bytes_right(hex) {
+    if glyphs.len() < n {
+        return unknown(d, out);
+    }
+    if !script::bytes_right(hex) {
         return unknown(d, out);
     }
     script::put_bytes(hex, glyphs, 0);
     let mut e = d;
     e.glyphs = n;
-    short(e, out, b'G', 0)
+    line(e, out, b'G', &[0])
 }
 
 // `Z`
 pub fn no_sheet(d: Desk, out: &mut [u8]) -> Desk {
     let mut e = d;
     e.sheet = 0;
-    short(e, out, b'Z', 0)
+    line(e, out, b'Z', &[0])
 }
 
 // `B hex`
 pub fn more_sheet(d: Desk, hex: &[u8], sheet: &mut [u8], out: &mut [u8]) -> Desk {
     let n = hex.len() / 2;
-    let at = least(d.sheet, sheet.len());
-    if sheet.len() - at < n || !script::bytes_right(hex) {
+    let at = within(d.sheet, sheet);
+    if sheet.len() - at < n {
+        return unknown(d, out);
+    }
+    if !script::bytes_right(hex) {
         return unknown(d, out);
     }
     script::put_bytes(hex, sheet, at);
     let mut e = d;
     e.sheet = at + n;
-    short(e, out, b'B', 0)
+    line(e, out, b'B', &[0])
 }
 
 // The sheet is translated into a room of that many entries.
@@ -67,9 +77,9 @@ fn translated(
     entries: &mut [u16],
     room: usize,
 ) -> blocks::Answer {
-    let g = least(d.glyphs, glyphs.len());
-    let s = least(d.sheet, sheet.len());
-    let n = least(room, entries.len());
+    let g = within(d.glyphs, glyphs);
+    let s = within(d.sheet, sheet);
+    let n = words_within(room, entries);
     sheets::translate(
         &sheet[..s],
         d.across,
@@ -79,23 +89,12 @@ fn translated(
     )
 }
 
-// A letter and the three numbers of a translation's answer.
-fn told(out: &mut [u8], held: usize, letter: u8, a: blocks::Answer) -> usize {
-    let b = output::character(out, held, letter);
-    let c = output::field(out, b, a.number as u64);
-    let e = output::field(out, c, a.first as u64);
-    output::field(out, e, a.second as u64)
-}
-
-fn listed(out: &mut [u8], held: usize, entries: &[u16]) -> usize {
-    let mut n = held;
-    let mut i: usize = 0;
-    while i < entries.len() {
-        n = output::character(out, n, b' ');
-        n = output::number(out, n, entries[i] as u64, 4);
-        i += 1;
-    }
-    n
+// The answer to a translation that was accepted.
+fn entries_told(d: Desk, a: blocks::Answer, entries: &[u16], out: &mut [u8]) -> Desk {
+    let n = words_within(a.first as usize, entries);
+    let b = output::begun(out, d.held, b'T', &[0, a.first as u64, 0]);
+    let c = output::words(out, b, &entries[..n], 4);
+    with_held(d, output::character(out, c, b'\n'))
 }
 
 // `T n`: no translation is longer than the entries that are lent, so a greater room changes nothing.
@@ -111,12 +110,15 @@ pub fn translation(
         return unknown(d, out);
     }
     let a = translated(d, glyphs, sheet, entries, room as usize);
-    let mut held = told(out, d.held, b'T', a);
-    if a.number == 0 {
-        let n = least(a.first as usize, entries.len());
-        held = listed(out, held, &entries[..n]);
+    if a.number != 0 {
+        return line(
+            d,
+            out,
+            b'T',
+            &[a.number as u64, a.first as u64, a.second as u64],
+        );
     }
-    with_held(d, output::character(out, held, b'\n'))
+    entries_told(d, a, entries, out)
 }
 
 // Units done, and the registers after them.
@@ -128,21 +130,25 @@ pub struct Sent {
 // The controller is run until it is idle, or a read awaits room. A character has at most 262,144 · 262,128 dots, 16 whole budgets
 // and a little, and nothing is longer: 64 runs are more than enough. The sum stays far below 64 bits.
 fn until_idle(r: Registers, mem: &mut [u16]) -> Sent {
-    let mut s = Sent { units: 0, regs: r };
+    let mut q = r;
+    let mut done: u64 = 0;
     let mut left: u32 = 64;
     while 0 < left {
-        let a = units::run(s.regs, mem, 4294967295);
-        let q = a.regs;
-        s = Sent {
-            units: std::num::wrapping_add_u64(s.units, a.count as u64),
-            regs: q,
-        };
+        let a = units::run(q, mem, 4294967295);
+        q = a.regs;
+        done = std::num::wrapping_add_u64(done, a.count as u64);
         if a.why != 1 {
-            return s;
+            return Sent {
+                units: done,
+                regs: q,
+            };
         }
         left -= 1;
     }
-    s
+    Sent {
+        units: done,
+        regs: q,
+    }
 }
 
 // An entry goes to its port.
@@ -156,19 +162,41 @@ fn send(r: Registers, e: u16) -> Answer {
 
 // Each entry is sent and the controller run after it; one that is refused changes nothing.
 fn send_all(r: Registers, entries: &[u16], mem: &mut [u16]) -> Sent {
-    let mut s = Sent { units: 0, regs: r };
+    let mut q = r;
+    let mut done: u64 = 0;
     let mut i: usize = 0;
     while i < entries.len() {
-        let a = send(s.regs, entries[i]);
-        let q = until_idle(a.regs, mem);
-        let t = q.regs;
-        s = Sent {
-            units: std::num::wrapping_add_u64(s.units, q.units),
-            regs: t,
-        };
+        let a = send(q, entries[i]);
+        let s = until_idle(a.regs, mem);
+        q = s.regs;
+        done = std::num::wrapping_add_u64(done, s.units);
         i += 1;
     }
-    s
+    Sent {
+        units: done,
+        regs: q,
+    }
+}
+
+// The first n entries are sent, over the words that the memory has.
+fn send_within(d: Desk, entries: &[u16], n: u32, mem: &mut [u16]) -> Sent {
+    let count = words_within(n as usize, entries);
+    let words = words_within(d.words, mem);
+    let r = d.regs;
+    send_all(r, &entries[..count], &mut mem[..words])
+}
+
+// The answer to a drawing that was accepted.
+fn drawing_told(
+    d: Desk,
+    a: blocks::Answer,
+    entries: &[u16],
+    mem: &mut [u16],
+    out: &mut [u8],
+) -> Desk {
+    let s = send_within(d, entries, a.first, mem);
+    let q = s.regs;
+    line(with_regs(d, q), out, b'X', &[0, a.first as u64, 0, s.units])
 }
 
 // `X`
@@ -180,16 +208,14 @@ pub fn drawn(
     entries: &mut [u16],
     out: &mut [u8],
 ) -> Desk {
-    let a = translated(d, glyphs, sheet, entries, entries.len());
-    let held = told(out, d.held, b'X', a);
+    let a = translated(d, glyphs, sheet, entries, 16802);
     if a.number != 0 {
-        let b = output::field(out, held, 0);
-        return with_held(d, output::character(out, b, b'\n'));
+        return line(
+            d,
+            out,
+            b'X',
+            &[a.number as u64, a.first as u64, a.second as u64, 0],
+        );
     }
-    let n = least(a.first as usize, entries.len());
-    let m = least(d.words, mem.len());
-    let s = send_all(d.regs, &entries[..n], &mut mem[..m]);
-    let q = s.regs;
-    let b = output::field(out, held, s.units);
-    with_held(with_regs(d, q), output::character(out, b, b'\n'))
+    drawing_told(d, a, entries, mem, out)
 }
