@@ -2,6 +2,8 @@
 use crate::desk::Desk;
 use crate::desk::with_held;
 use crate::reader::within;
+ghost use mathlib.Core.Path.{_≡_};
+ghost use Rattle.bench.specs.Upper.{upperOf};
 
 // What is held is written out.
 pub fn flush(d: Desk, out: &[u8]) -> Desk {
@@ -25,7 +27,9 @@ pub fn character(out: &mut [u8], held: usize, c: u8) -> usize {
 }
 
 // The digits A to F in upper case.
-fn upper(c: u8) -> u8 {
+fn upper(c: u8) -> u8
+    ensures { λ r. ⌜ r ≡ upperOf c ⌝ }
+{
     if 97 <= c { c - 32 } else { c }
 }
 

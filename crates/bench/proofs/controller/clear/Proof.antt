@@ -1,8 +1,8 @@
+-- `clear` is safe and ends: its place stays at or below n.
 use borrow.Author.Needs.{needs}
 use lib.ListN.{length}
 use mathlib.Core.Path.{_≡_}
 use Prim.Native.Nat.{_-_, _≤_}
--- `clear` is safe and ends: its place stays at or below n.
 use Rattle.bench.proofs.controller.clear.Statement.{statement}
 use Rattle.bench.proofs.controller.clear.Tie as tie
 use Rattle.bench.proofs.controller.clear.Reads as reads
@@ -14,43 +14,33 @@ Inv-loop mem₀ n i₀ mem i = (i ≤ n) × (length mem ≡ length mem₀)
 abbrev μ-loop : tie.MeasureT-loop
 μ-loop mem₀ n i₀ mem i = n - i
 
--- src/controller.rt:14:5
 loop-holds : tie.Need-loop-holds Inv-loop μ-loop
 loop-holds c = search needs
 
--- src/controller.rt:16:13
 same-length : tie.Need-same-length Inv-loop μ-loop
 same-length c = search needs
 
--- src/controller.rt:16:13
 returns : tie.Need-returns Inv-loop μ-loop
 returns c = search needs
 
--- src/controller.rt:18:9
 mul-mem : tie.Need-mul-mem Inv-loop μ-loop
 mul-mem c = search needs
 
--- src/controller.rt:18:9
 slice-write-mem : tie.Need-slice-write-mem Inv-loop μ-loop
 slice-write-mem c = search needs
 
--- src/controller.rt:19:9
 add-i : tie.Need-add-i Inv-loop μ-loop
 add-i c = search needs
 
--- src/controller.rt:14:5
 loop-less : tie.Need-loop-less Inv-loop μ-loop
 loop-less c = search needs
 
--- src/controller.rt:14:5
 loop-again : tie.Need-loop-again Inv-loop μ-loop
 loop-again c = search needs
 
--- src/controller.rt:12:1
 same-length-2 : tie.Need-same-length-2 Inv-loop μ-loop
 same-length-2 c = search needs
 
--- src/controller.rt:12:1
 returns-2 : tie.Need-returns-2 Inv-loop μ-loop
 returns-2 c = search needs
 

@@ -1,7 +1,7 @@
+-- `digest_of` is safe and ends: its place stays within the words.
 use borrow.Author.Needs.{needs}
 use lib.ListN.{length}
 use Prim.Native.Nat.{_-_, _≤_}
--- `digest_of` is safe and ends: its place stays within the words.
 use Rattle.bench.proofs.controller.digest_of.Statement.{statement}
 use Rattle.bench.proofs.controller.digest_of.Tie as tie
 use Rattle.bench.proofs.controller.digest_of.Reads as reads
@@ -14,39 +14,30 @@ Inv-loop mem h₀ i₀ h i = i ≤ length mem
 abbrev μ-loop : tie.MeasureT-loop
 μ-loop mem h₀ i₀ h i = length mem - i
 
--- src/controller.rt:171:5
 loop-holds : tie.Need-loop-holds Inv-loop μ-loop
 loop-holds c = search needs
 
--- src/controller.rt:172:17
 mul-w : tie.Need-mul-w Inv-loop μ-loop
 mul-w c = search needs
 
--- src/controller.rt:172:17
 shared-slice-read-w : tie.Need-shared-slice-read-w Inv-loop μ-loop
 shared-slice-read-w c = search needs
 
--- src/controller.rt:173:19
 mixed-requires : tie.Need-mixed-requires Inv-loop μ-loop
 mixed-requires c κs = search needs
 
--- src/controller.rt:173:9
 mixed-requires-2 : tie.Need-mixed-requires-2 Inv-loop μ-loop
 mixed-requires-2 c κs = search needs
 
--- src/controller.rt:174:9
 add-i : tie.Need-add-i Inv-loop μ-loop
 add-i c = search needs
 
--- src/controller.rt:171:5
 loop-less : tie.Need-loop-less Inv-loop μ-loop
 loop-less c = search needs
 
--- src/controller.rt:171:5
 loop-again : tie.Need-loop-again Inv-loop μ-loop
 loop-again c = search needs
 
--- src/controller.rt:168:1
 returns : tie.Need-returns Inv-loop μ-loop
 returns c = search needs
 

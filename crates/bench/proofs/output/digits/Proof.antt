@@ -1,8 +1,8 @@
+-- `digits` is safe and ends: its place stays within the text.
 use borrow.Author.Needs.{needs}
 use lib.ListN.{length}
 use mathlib.Core.Path.{_≡_}
 use Prim.Native.Nat.{_-_, _≤_}
--- `digits` is safe and ends: its place stays within the text.
 use Rattle.bench.proofs.output.digits.Statement.{statement}
 use Rattle.bench.proofs.output.digits.Tie as tie
 use Rattle.bench.proofs.output.digits.Reads as reads
@@ -16,39 +16,30 @@ Inv-loop out₀ held text n₀ i₀ out n i = (i ≤ length text) × (length out
 abbrev μ-loop : tie.MeasureT-loop
 μ-loop out₀ held text n₀ i₀ out n i = length text - i
 
--- src/output.rt:35:5
 loop-holds : tie.Need-loop-holds Inv-loop μ-loop
 loop-holds c = search needs
 
--- src/output.rt:36:37
 shared-slice-read-upper : tie.Need-shared-slice-read-upper Inv-loop μ-loop
 shared-slice-read-upper c = search needs
 
--- src/output.rt:36:31
 upper-requires : tie.Need-upper-requires Inv-loop μ-loop
 upper-requires c κs = search needs
 
--- src/output.rt:36:9
 character-requires : tie.Need-character-requires Inv-loop μ-loop
 character-requires c κs = search needs
 
--- src/output.rt:37:9
 add-i : tie.Need-add-i Inv-loop μ-loop
 add-i c = search needs
 
--- src/output.rt:35:5
 loop-less : tie.Need-loop-less Inv-loop μ-loop
 loop-less c = search needs
 
--- src/output.rt:35:5
 loop-again : tie.Need-loop-again Inv-loop μ-loop
 loop-again c = search needs
 
--- src/output.rt:32:1
 same-length : tie.Need-same-length Inv-loop μ-loop
 same-length c = search needs
 
--- src/output.rt:32:1
 returns : tie.Need-returns Inv-loop μ-loop
 returns c = search needs
 

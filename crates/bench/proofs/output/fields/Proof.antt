@@ -1,8 +1,8 @@
+-- `fields` is safe and ends: its place stays within the values.
 use borrow.Author.Needs.{needs}
 use lib.ListN.{length}
 use mathlib.Core.Path.{_≡_}
 use Prim.Native.Nat.{_-_, _≤_}
--- `fields` is safe and ends: its place stays within the values.
 use Rattle.bench.proofs.output.fields.Statement.{statement}
 use Rattle.bench.proofs.output.fields.Tie as tie
 use Rattle.bench.proofs.output.fields.Reads as reads
@@ -15,39 +15,30 @@ Inv-loop out₀ held values n₀ i₀ out n i = (i ≤ length values) × (length
 abbrev μ-loop : tie.MeasureT-loop
 μ-loop out₀ held values n₀ i₀ out n i = length values - i
 
--- src/output.rt:63:5
 loop-holds : tie.Need-loop-holds Inv-loop μ-loop
 loop-holds c = search needs
 
--- src/output.rt:64:28
 mul-padded : tie.Need-mul-padded Inv-loop μ-loop
 mul-padded c = search needs
 
--- src/output.rt:64:28
 shared-slice-read-padded : tie.Need-shared-slice-read-padded Inv-loop μ-loop
 shared-slice-read-padded c = search needs
 
--- src/output.rt:64:9
 padded-requires : tie.Need-padded-requires Inv-loop μ-loop
 padded-requires c κs = search needs
 
--- src/output.rt:65:9
 add-i : tie.Need-add-i Inv-loop μ-loop
 add-i c = search needs
 
--- src/output.rt:63:5
 loop-less : tie.Need-loop-less Inv-loop μ-loop
 loop-less c = search needs
 
--- src/output.rt:63:5
 loop-again : tie.Need-loop-again Inv-loop μ-loop
 loop-again c = search needs
 
--- src/output.rt:60:1
 same-length : tie.Need-same-length Inv-loop μ-loop
 same-length c = search needs
 
--- src/output.rt:60:1
 returns : tie.Need-returns Inv-loop μ-loop
 returns c = search needs
 

@@ -1,8 +1,8 @@
+-- `pairs` is safe and ends: its place stays within the bytes.
 use borrow.Author.Needs.{needs}
 use lib.ListN.{length}
 use mathlib.Core.Path.{_≡_}
 use Prim.Native.Nat.{_-_, _≤_}
--- `pairs` is safe and ends: its place stays within the bytes.
 use Rattle.bench.proofs.output.pairs.Statement.{statement}
 use Rattle.bench.proofs.output.pairs.Tie as tie
 use Rattle.bench.proofs.output.pairs.Reads as reads
@@ -17,43 +17,33 @@ Inv-loop out₀ held bytes n₀ i₀ out n i = (i ≤ length bytes) × (length o
 abbrev μ-loop : tie.MeasureT-loop
 μ-loop out₀ held bytes n₀ i₀ out n i = length bytes - i
 
--- src/output.rt:72:9
 character-requires : tie.Need-character-requires Inv-loop μ-loop
 character-requires c κs = search needs
 
--- src/output.rt:74:5
 loop-holds : tie.Need-loop-holds Inv-loop μ-loop
 loop-holds c = search needs
 
--- src/output.rt:75:33
 shared-slice-read-wide : tie.Need-shared-slice-read-wide Inv-loop μ-loop
 shared-slice-read-wide c = search needs
 
--- src/output.rt:75:28
 wide-requires : tie.Need-wide-requires Inv-loop μ-loop
 wide-requires c κs = search needs
 
--- src/output.rt:75:9
 number-requires : tie.Need-number-requires Inv-loop μ-loop
 number-requires c κs = search needs
 
--- src/output.rt:76:9
 add-i : tie.Need-add-i Inv-loop μ-loop
 add-i c = search needs
 
--- src/output.rt:74:5
 loop-less : tie.Need-loop-less Inv-loop μ-loop
 loop-less c = search needs
 
--- src/output.rt:74:5
 loop-again : tie.Need-loop-again Inv-loop μ-loop
 loop-again c = search needs
 
--- src/output.rt:71:1
 same-length : tie.Need-same-length Inv-loop μ-loop
 same-length c = search needs
 
--- src/output.rt:71:1
 returns : tie.Need-returns Inv-loop μ-loop
 returns c = search needs
 

@@ -1,8 +1,8 @@
+-- `words` is safe and ends: its place stays within the words.
 use borrow.Author.Needs.{needs}
 use lib.ListN.{length}
 use mathlib.Core.Path.{_≡_}
 use Prim.Native.Nat.{_-_, _≤_}
--- `words` is safe and ends: its place stays within the words.
 use Rattle.bench.proofs.output.words.Statement.{statement}
 use Rattle.bench.proofs.output.words.Tie as tie
 use Rattle.bench.proofs.output.words.Reads as reads
@@ -16,43 +16,33 @@ Inv-loop out₀ held values width n₀ i₀ out n i = (i ≤ length values) × (
 abbrev μ-loop : tie.MeasureT-loop
 μ-loop out₀ held values width n₀ i₀ out n i = length values - i
 
--- src/output.rt:89:5
 loop-holds : tie.Need-loop-holds Inv-loop μ-loop
 loop-holds c = search needs
 
--- src/output.rt:90:38
 mul-wide-word : tie.Need-mul-wide-word Inv-loop μ-loop
 mul-wide-word c = search needs
 
--- src/output.rt:90:38
 shared-slice-read-wide-word : tie.Need-shared-slice-read-wide-word Inv-loop μ-loop
 shared-slice-read-wide-word c = search needs
 
--- src/output.rt:90:28
 wide-word-requires : tie.Need-wide-word-requires Inv-loop μ-loop
 wide-word-requires c κs = search needs
 
--- src/output.rt:90:9
 padded-requires : tie.Need-padded-requires Inv-loop μ-loop
 padded-requires c κs = search needs
 
--- src/output.rt:91:9
 add-i : tie.Need-add-i Inv-loop μ-loop
 add-i c = search needs
 
--- src/output.rt:89:5
 loop-less : tie.Need-loop-less Inv-loop μ-loop
 loop-less c = search needs
 
--- src/output.rt:89:5
 loop-again : tie.Need-loop-again Inv-loop μ-loop
 loop-again c = search needs
 
--- src/output.rt:86:1
 same-length : tie.Need-same-length Inv-loop μ-loop
 same-length c = search needs
 
--- src/output.rt:86:1
 returns : tie.Need-returns Inv-loop μ-loop
 returns c = search needs
 

@@ -1,8 +1,8 @@
+-- `send_all` is safe and ends: its place stays within the entries.
 use borrow.Author.Needs.{needs}
 use lib.ListN.{length}
 use mathlib.Core.Path.{_≡_}
 use Prim.Native.Nat.{_-_, _≤_}
--- `send_all` is safe and ends: its place stays within the entries.
 use Rattle.bench.proofs.sheet.send_all.Statement.{statement}
 use Rattle.bench.proofs.sheet.send_all.Tie as tie
 use Rattle.bench.proofs.sheet.send_all.Reads as reads
@@ -17,47 +17,36 @@ Inv-loop entries mem₀ q₀ done₀ i₀ mem q done i = (i ≤ length entries) 
 abbrev μ-loop : tie.MeasureT-loop
 μ-loop entries mem₀ q₀ done₀ i₀ mem q done i = length entries - i
 
--- src/sheet.rt:169:5
 loop-holds : tie.Need-loop-holds Inv-loop μ-loop
 loop-holds c = search needs
 
--- src/sheet.rt:170:25
 mul-send : tie.Need-mul-send Inv-loop μ-loop
 mul-send c = search needs
 
--- src/sheet.rt:170:25
 shared-slice-read-send : tie.Need-shared-slice-read-send Inv-loop μ-loop
 shared-slice-read-send c = search needs
 
--- src/sheet.rt:170:13
 send-requires : tie.Need-send-requires Inv-loop μ-loop
 send-requires c κs = search needs
 
--- src/sheet.rt:171:13
 until-idle-requires : tie.Need-until-idle-requires Inv-loop μ-loop
 until-idle-requires c κs = search needs
 
--- src/sheet.rt:173:9
 wrapping-add-u64-requires : tie.Need-wrapping-add-u64-requires Inv-loop μ-loop
 wrapping-add-u64-requires c κs = search needs
 
--- src/sheet.rt:174:9
 add-i : tie.Need-add-i Inv-loop μ-loop
 add-i c = search needs
 
--- src/sheet.rt:169:5
 loop-less : tie.Need-loop-less Inv-loop μ-loop
 loop-less c = search needs
 
--- src/sheet.rt:169:5
 loop-again : tie.Need-loop-again Inv-loop μ-loop
 loop-again c = search needs
 
--- src/sheet.rt:165:1
 same-length : tie.Need-same-length Inv-loop μ-loop
 same-length c = search needs
 
--- src/sheet.rt:165:1
 returns : tie.Need-returns Inv-loop μ-loop
 returns c = search needs
 

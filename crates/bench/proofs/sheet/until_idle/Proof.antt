@@ -1,7 +1,7 @@
+-- `until_idle` is safe and ends: the runs left count down.
 use borrow.Author.Needs.{needs}
 use lib.ListN.{length}
 use mathlib.Core.Path.{_≡_}
--- `until_idle` is safe and ends: the runs left count down.
 use Rattle.bench.proofs.sheet.until_idle.Statement.{statement}
 use Rattle.bench.proofs.sheet.until_idle.Tie as tie
 use Rattle.bench.proofs.sheet.until_idle.Reads as reads
@@ -15,47 +15,36 @@ Inv-loop mem₀ q₀ done₀ left₀ mem q done left = length mem ≡ length mem
 abbrev μ-loop : tie.MeasureT-loop
 μ-loop mem₀ q₀ done₀ left₀ mem q done left = left
 
--- src/sheet.rt:144:5
 loop-holds : tie.Need-loop-holds Inv-loop μ-loop
 loop-holds c = search needs
 
--- src/sheet.rt:145:13
 run-requires : tie.Need-run-requires Inv-loop μ-loop
 run-requires c κs = search needs
 
--- src/sheet.rt:147:49
 cast-wrapping-add-u64 : tie.Need-cast-wrapping-add-u64 Inv-loop μ-loop
 cast-wrapping-add-u64 c = search needs
 
--- src/sheet.rt:147:9
 wrapping-add-u64-requires : tie.Need-wrapping-add-u64-requires Inv-loop μ-loop
 wrapping-add-u64-requires c κs = search needs
 
--- src/sheet.rt:149:13
 same-length : tie.Need-same-length Inv-loop μ-loop
 same-length c = search needs
 
--- src/sheet.rt:149:13
 returns : tie.Need-returns Inv-loop μ-loop
 returns c = search needs
 
--- src/sheet.rt:154:9
 sub-left : tie.Need-sub-left Inv-loop μ-loop
 sub-left c = search needs
 
--- src/sheet.rt:144:5
 loop-less : tie.Need-loop-less Inv-loop μ-loop
 loop-less c = search needs
 
--- src/sheet.rt:144:5
 loop-again : tie.Need-loop-again Inv-loop μ-loop
 loop-again c = search needs
 
--- src/sheet.rt:140:1
 same-length-2 : tie.Need-same-length-2 Inv-loop μ-loop
 same-length-2 c = search needs
 
--- src/sheet.rt:140:1
 returns-2 : tie.Need-returns-2 Inv-loop μ-loop
 returns-2 c = search needs
 
