@@ -127,8 +127,8 @@ pub struct Sent {
     pub regs: Registers,
 }
 
-// The controller is run until it is idle, or a read awaits room. A character has at most 262,144 · 262,128 dots, 16 whole budgets
-// and a little, and nothing is longer: 64 runs are more than enough. The sum stays far below 64 bits.
+// The controller is run until it is idle, or a read awaits room. The longest figure, a character of 262,144 rows of 262,128 dots,
+// is done within 16 whole budgets, so 64 runs are more than enough. The sum stays far below 64 bits.
 fn until_idle(r: Registers, mem: &mut [u16]) -> Sent {
     let mut q = r;
     let mut done: u64 = 0;
