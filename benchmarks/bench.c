@@ -1,6 +1,6 @@
 /* The proved run against the same controller written by hand in C (hand.c): the same entries in, the same memory out.
    bench time FOLDER            times both, round by round, and the translation
-   bench count FOLDER NAME SIDE TIMES   draws a part of one load TIMES times, for whoever counts its instructions */
+   bench count FOLDER NAME SIDE UNITS   draws the first UNITS units of one load, for whoever counts its instructions */
 #include <stdio.h>
 #include <stddef.h>
 #include <stdint.h>
@@ -14,9 +14,12 @@ struct moment {
 };
 int clock_gettime(int clock, struct moment *m);
 int atoi(const char *text);
+int snprintf(char *to, size_t room, const char *format, ...);
+int strcmp(const char *a, const char *b);
 void exit(int status);
 
 enum { LENGTH = 262144, MOST = 16802, ROUNDS = 9 };
+static const uint32_t ALL = 0xFFFFFFFF;
 
 static void fail(const char *what, const char *about) {
     fprintf(stderr, "bench: %s %s\n", what, about);
@@ -29,7 +32,7 @@ struct load {
     const char *name, *of; /* what one of its items is */
     uint16_t entries[MOST];
     size_t count;
-    uint64_t items;
+    unsigned long long items;
 };
 
 static struct load lines, rects, glyphs, fills;
@@ -61,39 +64,39 @@ static void load_fills(struct load *l) {
     for (int i = 0; i < 8192; i++) l->entries[l->count++] = (uint16_t)(i * 37 % 256);
 }
 
-/* ---- the two sides: entries are sent until the buffer is full, then the controller runs until it is idle */
+/* ---- the two sides: entries are sent until the buffer is full, then the controller runs until it is idle or has done `most` units */
 
-static uint64_t proved(const struct load *l, uint16_t *mem) {
+static unsigned long long proved(const struct load *l, uint16_t *mem, uint32_t most) {
     kranichseil_registers r = kranichseil_fresh();
-    uint64_t units = 0;
+    unsigned long long units = 0;
     size_t i = 0;
-    while (i < l->count) {
+    while (i < l->count && units < most) {
         for (; i < l->count; i++) {
             uint16_t e = l->entries[i];
             kranichseil_answer a = e < 256 ? kranichseil_parameter(r, (uint8_t)e) : kranichseil_command(r, (uint8_t)e);
             if (a.number) break;
             r = a.regs;
         }
-        kranichseil_report q = kranichseil_board_run(&r, mem, LENGTH, 0xFFFFFFFF);
-        if (q.number || q.why != 2) fail("the run stopped within", l->name);
+        kranichseil_report q = kranichseil_board_run(&r, mem, LENGTH, most - (uint32_t)units);
+        if (q.number || q.why == 3) fail("the run stopped within", l->name);
         units += q.count;
     }
     return units;
 }
 
-static uint64_t by_hand(const struct load *l, uint16_t *mem) {
+static unsigned long long by_hand(const struct load *l, uint16_t *mem, uint32_t most) {
     struct hand h;
-    uint64_t units = 0;
+    unsigned long long units = 0;
     size_t i = 0;
     hand_fresh(&h);
-    while (i < l->count) {
+    while (i < l->count && units < most) {
         for (; i < l->count; i++) {
             uint16_t e = l->entries[i];
             if (e < 256 ? hand_parameter(&h, (uint8_t)e) : hand_command(&h, (uint8_t)e)) break;
         }
         uint32_t count;
         int why;
-        if (hand_run(&h, mem, LENGTH, 0xFFFFFFFF, &count, &why) || why != 2) fail("the hand-written run stopped within", l->name);
+        if (hand_run(&h, mem, LENGTH, most - (uint32_t)units, &count, &why) || why == 3) fail("the hand-written run stopped within", l->name);
         units += count;
     }
     return units;
@@ -122,14 +125,14 @@ static void compare(struct load *l) {
     double ns[ROUNDS], hand_ns[ROUNDS], ratio[ROUNDS];
     memset(ours, 0, sizeof ours);
     memset(theirs, 0, sizeof theirs);
-    uint64_t units = proved(l, ours);
-    if (units != by_hand(l, theirs)) fail("the two do other numbers of units in", l->name);
+    unsigned long long units = proved(l, ours, ALL);
+    if (units != by_hand(l, theirs, ALL)) fail("the two do other numbers of units in", l->name);
     l->items = l == &fills ? 4096 : units - l->count;
     for (int k = 0; k < ROUNDS; k++) {
         double a = now();
-        proved(l, ours);
+        proved(l, ours, ALL);
         double b = now();
-        by_hand(l, theirs);
+        by_hand(l, theirs, ALL);
         double c = now();
         ns[k] = (b - a) / (double)l->items;
         hand_ns[k] = (c - b) / (double)l->items;
@@ -137,7 +140,7 @@ static void compare(struct load *l) {
     }
     if (memcmp(ours, theirs, sizeof ours)) fail("the two leave other memory after", l->name);
     sort(ns, ROUNDS), sort(hand_ns, ROUNDS), sort(ratio, ROUNDS);
-    printf("%-8s %8llu %-6s %8.1f %8.1f   %5.2f  (%.2f to %.2f)\n", l->name, (unsigned long long)l->items, l->of, ns[0], hand_ns[0],
+    printf("%-8s %8llu %-6s %8.1f %8.1f   %5.2f  (%.2f to %.2f)\n", l->name, l->items, l->of, ns[0], hand_ns[0],
            ratio[ROUNDS / 2], ratio[0], ratio[ROUNDS - 1]);
 }
 
@@ -156,7 +159,7 @@ static void translation(const char *folder, const char *file, int figures) {
 }
 
 int main(int words, char **word) {
-    if (words < 3) fail("usage: bench time FOLDER, or", "bench count FOLDER NAME SIDE TIMES");
+    if (words < 3) fail("usage: bench time FOLDER, or", "bench count FOLDER NAME SIDE UNITS");
     table_size = load_file(word[2], "glyphs.table", table, sizeof table);
     lines.name = "lines", rects.name = "rects", glyphs.name = "glyphs", fills.name = "fills";
     lines.of = rects.of = glyphs.of = "dots", fills.of = "words";
@@ -168,7 +171,7 @@ int main(int words, char **word) {
         struct load *all[] = {&lines, &rects, &glyphs, &fills};
         for (int i = 0; i < 4; i++)
             if (!strcmp(all[i]->name, word[3]))
-                for (int k = atoi(word[5]); k > 0; k--) (*word[4] == 'p' ? proved : by_hand)(all[i], ours);
+                (*word[4] == 'p' ? proved : by_hand)(all[i], ours, (uint32_t)atoi(word[5]));
         return 0;
     }
     printf("%-8s %8s %-6s %8s %8s   %s\n", "", "", "", "proved", "by hand", "ratio");

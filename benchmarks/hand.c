@@ -102,78 +102,78 @@ struct cursor {
     uint16_t mask;
 };
 
-static inline struct cursor right(struct cursor c) {
-    return (struct cursor){(c.ead + (c.mask >> 15)) & 0x3FFFF, (uint16_t)(c.mask << 1 | c.mask >> 15)};
+/* A step along a direction: what EAD gains by its up or down part, and its right (1) or left (-1) part. */
+struct step {
+    uint32_t lines;
+    int side;
+};
+
+static struct step step_along(unsigned dir, uint32_t pitch) {
+    dir &= 7;
+    return (struct step){dir == 0 || dir == 1 || dir == 7 ? pitch : dir >= 3 && dir <= 5 ? -pitch : 0, dir >= 1 && dir <= 3 ? 1 : dir >= 5 ? -1 : 0};
 }
 
-static inline struct cursor left(struct cursor c) {
-    return (struct cursor){(c.ead - (c.mask & 1)) & 0x3FFFF, (uint16_t)(c.mask >> 1 | c.mask << 15)};
-}
-
-/* What a direction adds to EAD by its up or down part, and whether it has a right (1) or a left (-1) part. */
-static inline uint32_t lines_of(unsigned dir, uint32_t pitch) {
-    return dir == 0 || dir == 1 || dir == 7 ? pitch : dir >= 3 && dir <= 5 ? -pitch : 0;
-}
-
-static inline int side_of(unsigned dir) { return dir >= 1 && dir <= 3 ? 1 : dir >= 5 ? -1 : 0; }
-
-static inline struct cursor stepped(struct cursor c, uint32_t lines, int side) {
-    c.ead = (c.ead + lines) & 0x3FFFF;
-    return side > 0 ? right(c) : side < 0 ? left(c) : c;
+static inline struct cursor stepped(struct cursor c, struct step s) {
+    c.ead += s.lines;
+    if (s.side > 0) {
+        c.ead += c.mask >> 15;
+        c.mask = (uint16_t)(c.mask << 1 | c.mask >> 15);
+    } else if (s.side < 0) {
+        c.ead -= c.mask & 1;
+        c.mask = (uint16_t)(c.mask >> 1 | c.mask << 15);
+    }
+    return c; /* EAD past its 18 bits: the fold cuts it, and h->ead is cut when it is stored */
 }
 
 static void move_word(struct hand *h) {
-    h->ead = (h->ead + lines_of(h->dir, h->pitch) + (uint32_t)side_of(h->dir)) & 0x3FFFF;
+    struct step s = step_along(h->dir, h->pitch);
+    h->ead = (h->ead + s.lines + (uint32_t)s.side) & 0x3FFFF;
 }
 
 /* ---- figures: as many cycles as the budget allows, in locals; what is returned is their number */
 
-static uint32_t draw_line(struct hand *h, uint16_t *mem, uint32_t fold, uint32_t budget) {
-    const uint8_t op = h->op;
+static inline __attribute__((always_inline)) uint32_t draw_line(struct hand *h, uint16_t *mem, uint32_t fold, uint32_t budget, uint8_t op) {
     const uint16_t word = h->ram[8] | h->ram[9] << 8, d1 = h->d1, d2 = h->d2;
-    const uint32_t dots = h->dc + 1u;
-    const unsigned axis = (h->dir + (h->dir & 1u)) & 7, diagonal = h->dir | 1u;
-    const uint32_t axis_lines = lines_of(axis, h->pitch), diagonal_lines = lines_of(diagonal, h->pitch);
-    const int axis_side = side_of(axis), diagonal_side = side_of(diagonal);
-    uint32_t k = h->dot, done = 0;
+    const uint32_t dots = h->dc + 1u, first = h->dot, stop = dots - first < budget ? dots : first + budget;
+    const struct step axis = step_along(h->dir + (h->dir & 1u), h->pitch), diagonal = step_along(h->dir | 1u, h->pitch);
     uint16_t running = h->running;
+    uint32_t k = first;
     struct cursor c = {h->ead, h->mask};
-    while (done < budget) {
+    for (;;) {
         mem[c.ead & fold] = combined(op, mem[c.ead & fold], c.mask, word >> (k & 15) & 1 ? 0xFFFF : 0);
-        done++;
-        if (++k == dots) {
+        k++;
+        if (k == dots) {
             h->work = IDLE;
             break;
         }
         if (running & 0x2000) {
-            c = stepped(c, axis_lines, axis_side);
+            c = stepped(c, axis);
             running = (running + d1) & 0x3FFF;
         } else {
-            c = stepped(c, diagonal_lines, diagonal_side);
+            c = stepped(c, diagonal);
             running = (running + d2) & 0x3FFF;
         }
+        if (k == stop) break;
     }
-    h->ead = c.ead;
+    h->ead = c.ead & 0x3FFFF;
     h->mask = c.mask;
     h->dot = k;
     h->running = running;
-    return done;
+    return k - first;
 }
 
 /* Dots along a direction, and rectangles: the direction changes only at a corner. */
-static uint32_t draw_sides(struct hand *h, uint16_t *mem, uint32_t fold, uint32_t budget) {
-    const uint8_t op = h->op;
+static inline __attribute__((always_inline)) uint32_t draw_sides(struct hand *h, uint16_t *mem, uint32_t fold, uint32_t budget, uint8_t op) {
     const uint16_t word = h->ram[8] | h->ram[9] << 8;
-    const uint32_t dots = figure_dots(h), pitch = h->pitch;
+    const uint32_t dots = figure_dots(h), first = h->dot, stop = dots - first < budget ? dots : first + budget;
     const uint32_t corner[] = {h->d, h->d + h->d2, 2u * h->d + h->d2, dots};
-    uint32_t k = h->dot, done = 0, end = dots, lines = lines_of(h->dir, pitch);
-    int side = side_of(h->dir);
+    struct step step = step_along(h->dir, h->pitch);
+    uint32_t k = first, end = h->type == 8 ? k : dots; /* of a rectangle, the first dot looks for its side */
     struct cursor c = {h->ead, h->mask};
-    if (h->type == 8) end = k; /* the first dot looks for its side */
-    while (done < budget) {
+    for (;;) {
         mem[c.ead & fold] = combined(op, mem[c.ead & fold], c.mask, word >> (k & 15) & 1 ? 0xFFFF : 0);
-        done++;
         if (k + 1 == dots) {
+            k++;
             h->work = IDLE;
             break;
         }
@@ -181,23 +181,21 @@ static uint32_t draw_sides(struct hand *h, uint16_t *mem, uint32_t fold, uint32_
             unsigned s = 0;
             while (corner[s] <= k) s++;
             end = corner[s];
-            lines = lines_of((h->dir + 2 * s) & 7, pitch);
-            side = side_of((h->dir + 2 * s) & 7);
+            step = step_along(h->dir + 2 * s, h->pitch);
         }
-        c = stepped(c, lines, side);
+        c = stepped(c, step);
         k++;
+        if (k == stop) break;
     }
-    h->ead = c.ead;
+    h->ead = c.ead & 0x3FFFF;
     h->mask = c.mask;
     h->dot = k;
-    return done;
+    return k - first;
 }
 
-static uint32_t draw_character(struct hand *h, uint16_t *mem, uint32_t fold, uint32_t budget) {
-    const uint8_t op = h->op;
+static inline __attribute__((always_inline)) uint32_t draw_character(struct hand *h, uint16_t *mem, uint32_t fold, uint32_t budget, uint8_t op) {
     const uint32_t g = factor(h), across = columns(h), down = rows(h);
-    const uint32_t row_lines = lines_of((h->dir + 2u) & 7, h->pitch), dot_lines = lines_of(h->dir, h->pitch);
-    const int row_side = side_of((h->dir + 2u) & 7), dot_side = side_of(h->dir);
+    const struct step along = step_along(h->dir, h->pitch), next_row = step_along(h->dir + 2u, h->pitch);
     struct cursor c = {h->ead, h->mask}, start = {h->start_ead, h->start_mask};
     uint32_t row = h->row, column = h->column, done = 0;
     uint8_t byte = h->ram[15 - row / g % 8];
@@ -206,13 +204,13 @@ static uint32_t draw_character(struct hand *h, uint16_t *mem, uint32_t fold, uin
         mem[c.ead & fold] = combined(op, mem[c.ead & fold], c.mask, byte >> bit & 1 ? 0xFFFF : 0);
         done++;
         if (++column < across) {
-            c = stepped(c, dot_lines, dot_side);
+            c = stepped(c, along);
             if (++within == g) {
                 within = 0;
                 bit = (bit + 1) & 7;
             }
         } else if (++row < down) {
-            c = start = stepped(start, row_lines, row_side);
+            c = start = stepped(start, next_row);
             column = bit = within = 0;
             byte = h->ram[15 - row / g % 8];
         } else {
@@ -220,13 +218,29 @@ static uint32_t draw_character(struct hand *h, uint16_t *mem, uint32_t fold, uin
             break;
         }
     }
-    h->ead = c.ead;
+    h->ead = c.ead & 0x3FFFF;
     h->mask = c.mask;
-    h->start_ead = start.ead;
+    h->start_ead = start.ead & 0x3FFFF;
     h->start_mask = start.mask;
     h->row = row;
     h->column = column;
     return done;
+}
+
+/* The loops above once for each operation, so that no dot asks which it is. */
+static uint32_t draw_with(struct hand *h, uint16_t *mem, uint32_t fold, uint32_t budget, uint8_t op) __attribute__((always_inline));
+static inline uint32_t draw_with(struct hand *h, uint16_t *mem, uint32_t fold, uint32_t budget, uint8_t op) {
+    if (h->work == CHARACTER) return draw_character(h, mem, fold, budget, op);
+    return h->type == 1 ? draw_line(h, mem, fold, budget, op) : draw_sides(h, mem, fold, budget, op);
+}
+
+static uint32_t draw(struct hand *h, uint16_t *mem, uint32_t fold, uint32_t budget) {
+    switch (h->op) {
+    case 0: return draw_with(h, mem, fold, budget, 0);
+    case 1: return draw_with(h, mem, fold, budget, 1);
+    case 2: return draw_with(h, mem, fold, budget, 2);
+    default: return draw_with(h, mem, fold, budget, 3);
+    }
 }
 
 static bool room(const struct hand *h) { return h->count + (is_word(h->command) ? 2 : 1) <= 16; }
@@ -377,10 +391,8 @@ int hand_run(struct hand *h, uint16_t *mem, size_t length, uint32_t budget, uint
     uint32_t n = 0;
     *why = 1;
     while (n < budget) {
-        if (h->work == FIGURE) {
-            n += h->type == 1 ? draw_line(h, mem, fold, budget - n) : draw_sides(h, mem, fold, budget - n);
-        } else if (h->work == CHARACTER) {
-            n += draw_character(h, mem, fold, budget - n);
+        if (h->work == FIGURE || h->work == CHARACTER) {
+            n += draw(h, mem, fold, budget - n);
         } else if (h->work == READING) {
             if (!room(h)) {
                 *why = 3;

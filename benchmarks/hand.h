@@ -1,7 +1,6 @@
 /* The controller as one would write it by hand in C, from document 01: the measure that the proved run is held against. */
 #ifndef HAND_H
 #define HAND_H
-#include <stdbool.h>
 #include <stddef.h>
 #include <stdint.h>
 
