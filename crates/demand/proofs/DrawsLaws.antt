@@ -1,9 +1,9 @@
 -- A figure that FIGD draws, from its first entry to its last dot: if the walk of its registers changes a shape of the plane once,
 -- as geometry shows of dots, lines and rectangles, then its entries are accepted and change just that shape. A dot is the first case.
-use mathlib.Core.Path.{_≡_, refl, sym, ap, subst, _∙_}
+use mathlib.Core.Path.{_≡_, refl, sym, subst}
 use mathlib.Core.Bool.{true}
 use mathlib.Core.List.{List, [], _∷_, _++_}
-use Prim.Native.Nat.{ℕ, suc, _+_, _*_, _%_, _≤_, _<_}
+use Prim.Native.Nat.{ℕ, suc, _*_, _%_, _≤_, _<_}
 use native.Mathlib.Omega.{arith}
 use lib.ListN.{length, set}
 use Rattle.dots.specs.declared.Operation.{Operation}
@@ -19,7 +19,7 @@ use Rattle.entries.specs.Entries.{headEntries, dotEntries}
 use Rattle.registers.specs.declared.Drawing.{Drawing}
 use Rattle.registers.specs.declared.Registers.{Registers}
 use Rattle.registers.specs.Size.{dotsOf}
-use Rattle.registers.specs.State.{State, state}
+use Rattle.registers.specs.State.{State}
 use Rattle.figures.specs.Figure.{patternAt}
 use Rattle.units.specs.Run.{lengthB}
 use Rattle.sending.proofs.WaitLaws.{Waiting}
@@ -64,7 +64,9 @@ module _ (p h : ℕ) (sized : Sized p h) (s : State) (held : Held p h s) (op : O
   figd-law figs f i n on sets all few geometry =
       record {
         after = ended (figd (drawingSet base f i)) (s .mem) n;
-        leads = leads-count (leads-then (head .leads (s .mem) (held .lawful)) (leads-then (tail .leads (s .mem) (held .lawful)) (figd-draws (tail .waits) n all (s .mem) (held .lawful) (omega arith)))) (omega arith);
+        leads =
+            leads-count (leads-then (head .leads (s .mem) (held .lawful)) (leads-then (tail .leads (s .mem) (held .lawful))
+            (figd-draws (tail .waits) n all (s .mem) (held .lawful) (omega arith)))) (omega arith);
         waits = figd-waits (tail .waits) n all (s .mem);
         pitch = held .pitch;
         drawn = subst (λ (k : ℕ). Drawn p h op on solid (s .mem) (cycles op ones (walk (stepAt f) k (cursorAt (address p (a .x) (a .y)))) (suc n) (s .mem))) (sym (held .pitch))

@@ -2,7 +2,7 @@
 -- rows to RA8 to RA15, and GCHRD's 8g rows of 8g dots are the glyph's square with the glyph's bits.
 use mathlib.Core.Path.{_≡_, refl, sym, ap, ap₂, subst, _∙_}
 use mathlib.Core.Bool.{false}
-use mathlib.Core.List.{List, [], _∷_, _++_}
+use mathlib.Core.List.{List, _∷_, _++_}
 use Prim.Native.Nat.{ℕ, zero, suc, _+_, _-_, _*_, _/_, _%_, _≤_, _<_}
 use native.Mathlib.Nat.{mul-le-mul-left}
 use native.Mathlib.Omega.{arith}
@@ -10,11 +10,10 @@ use lib.ListN.{length, getD, take, drop, length-append, List·getD-append}
 use lib.Seq.{sets, sets-eq, length-take-le, getD-append-add}
 use Rattle.dots.specs.declared.Operation.{Operation}
 use Rattle.dots.specs.declared.Cursor.{Cursor}
-use Rattle.dots.specs.Bit.{bit}
 use Rattle.dots.specs.Dot.{cursorAt}
 use Rattle.dots.proofs.BitLaws.{bit-lt}
 use Rattle.dots.proofs.DotLaws.{address}
-use Rattle.geometry.specs.Plane.{InPlane, squareOn, glyphInk}
+use Rattle.geometry.specs.Plane.{squareOn, glyphInk}
 use Rattle.geometry.proofs.WalkLaws.{Sized}
 use Rattle.geometry.proofs.CycleLaws.{cycles, Drawn}
 use Rattle.geometry.proofs.FigureLaws.{spread}
@@ -28,10 +27,9 @@ use Rattle.registers.specs.Fresh.{emptyBuffer}
 use Rattle.registers.specs.Put.{putZoom}
 use Rattle.registers.specs.Size as size
 use Rattle.registers.specs.Size.{factorOf, columnsOf}
-use Rattle.registers.specs.State.{State, state}
+use Rattle.registers.specs.State.{State}
 use Rattle.figures.specs.Character.{characterPattern}
-use Rattle.sending.specs.Send.{fullBudget}
-use Rattle.sending.proofs.SendLaws.{Leads, leads-then, Acts, acts-then}
+use Rattle.sending.proofs.SendLaws.{leads-then, Acts, acts-then}
 use Rattle.sending.proofs.EntryLaws.{progress}
 use Rattle.sending.proofs.GroupLaws.{acts-zoom, acts-rows, acts-figs, sends-dc}
 use Rattle.sending.proofs.CharacterLaws.{gchrd, finished, gchrd-draws, gchrd-waits}
@@ -102,8 +100,8 @@ module _ (p h : ℕ) (sized : Sized p h) (s : State) (held : Held p h s) (op : O
       let wdat = acts-wdat (held .waits) op in
       let zoom = acts-zoom (wdat .waits) (g - 1) (omega arith) in
       let curs = acts-cursor p h (sized .area) (foot a g) (record { column = omega arith; row = omega arith }) (zoom .waits) in
-      let rows = acts-rows (curs .waits) (getD t (8 * n) 0) (getD t (8 * n + 1) 0) (getD t (8 * n + 2) 0) (getD t (8 * n + 3) 0) (getD t (8 * n + 4) 0) (getD t (8 * n + 5) 0) (getD t (8 * n + 6) 0) (getD t (8 * n + 7) 0)
-      (bytes _) (bytes _) (bytes _) (bytes _) (bytes _) (bytes _) (bytes _) (bytes _) in
+      let rows = acts-rows (curs .waits) _ _ _ _ _ _ _ _ (bytes (8 * n)) (bytes (8 * n + 1)) (bytes (8 * n + 2)) (bytes (8 * n + 3))
+      (bytes (8 * n + 4)) (bytes (8 * n + 5)) (bytes (8 * n + 6)) (bytes (8 * n + 7)) in
       let figs = acts-figs (rows .waits) 0x12 2 2 (omega arith) refl refl in
       acts-then wdat (acts-then zoom (acts-then curs (acts-then rows (acts-then figs (sends-dc (figs .waits) 7 (omega arith) refl)))))
 
@@ -149,7 +147,9 @@ module _ (p h : ℕ) (sized : Sized p h) (s : State) (held : Held p h s) (op : O
   unfolding glyphEntries
   glyph-law = record {
     after = finished (gchrd q) (s .mem) some last;
-    leads = leads-count (leads-then (acts .leads (s .mem) (held .lawful)) (gchrd-draws (acts .waits) some last all (s .mem) (held .lawful) (omega (arith, few-dots g top)))) (omega (arith, some-dots g pos));
+    leads =
+        leads-count (leads-then (acts .leads (s .mem) (held .lawful)) (gchrd-draws (acts .waits) some last all (s .mem) (held .lawful) (omega (arith, few-dots g top))))
+        (omega (arith, some-dots g pos));
     waits = gchrd-waits (acts .waits) some last all (s .mem);
     pitch = held .pitch;
     drawn = subst (Drawn p h op (squareOn (a .x) (a .y) g) (glyphInk t n (a .x) (a .y) g) (s .mem)) (sym leaves) is-glyph;

@@ -1,7 +1,7 @@
 -- What every figure's entries begin with: WDAT sets the operation, CURS goes to the figure's first dot, and PRAM sets a pattern of
 -- ones. After them nothing of the controller's earlier mask, address, operation or pattern is left.
-use mathlib.Core.Path.{_≡_, refl, sym, ap, ap₂, subst, _∙_}
-use mathlib.Core.List.{List, [], _∷_, _++_}
+use mathlib.Core.Path.{_≡_, refl, ap}
+use mathlib.Core.List.{List, [], _∷_}
 use Prim.Native.Nat.{ℕ, _+_, _*_, _/_, _%_, _^_, _≤_, _<_}
 use native.Mathlib.Nat.{mul-left-comm}
 use native.Mathlib.Omega.{arith}
@@ -24,22 +24,31 @@ use Rattle.registers.specs.declared.Command.the-variants.{Pram, Curs, Wdat}
 use Rattle.registers.specs.declared.Transfer.the-variants.{Word}
 use Rattle.registers.specs.declared.Registers.{Registers}
 use Rattle.registers.specs.Put.{putCursor, putOp, putRam, putProgress}
-use Rattle.figures.specs.Figure.{patternAt}
+use Rattle.processor.specs.Command.{operationOf}
+use Rattle.figures.specs.Figure.{patternOf, patternAt}
 use Rattle.sending.proofs.WaitLaws.{Waiting, drained}
 use Rattle.sending.proofs.SendLaws.{Acts, acts-then}
-use Rattle.sending.proofs.EntryLaws.{progress, operationNumber, wdat-command}
+use Rattle.sending.proofs.EntryLaws.{progress, wdat-command}
 use Rattle.sending.proofs.GroupLaws.{acts-as, acts-curs, acts-ones}
 
-number-is : (op : Operation) → operationNumber op ≡ opNumber op
-number-is Replace = refl
-number-is Complement = refl
-number-is Reset = refl
-number-is Set = refl
+-- WDAT gets the operation's number, and the controller has the operation from it
+number-lt : (op : Operation) → opNumber op < 4
+number-lt Replace = omega arith
+number-lt Complement = omega arith
+number-lt Reset = omega arith
+number-lt Set = omega arith
 
--- WDAT
+operation-back : (op : Operation) → operationOf (opNumber op) ≡ op
+unfolding operationOf
+operation-back Replace = refl
+operation-back Complement = refl
+operation-back Reset = refl
+operation-back Set = refl
+
 pub acts-wdat : {r : Registers} → Waiting r → (op : Operation) → Acts r ((0x120 + opNumber op) ∷ []) (putProgress (putOp (drained r) op) (progress (Wdat Word) 0))
 acts-wdat {r} v op =
-    subst (λ (n : ℕ). Acts r ((0x120 + n) ∷ []) (putProgress (putOp (drained r) op) (progress (Wdat Word) 0))) (number-is op) (wdat-command v op)
+    acts-as (wdat-command v (opNumber op) (number-lt op))
+    (ap (λ (o : Operation). putProgress (putOp (drained r) o) (progress (Wdat Word) 0)) (operation-back op))
 
 -- CURS goes to the dot's own cursor
 cursor-is : (p : ℕ) (a : Point) → _≡_ {A = Cursor} (record { ead = eadOf p a; mask = 2 ^ (a .x % 16) }) (cursorAt (address p (a .x) (a .y)))
@@ -75,7 +84,8 @@ unfolding bit
 ones k = eqb→eq _ _ (below (λ j. eqb (bit j 65535) 1) 16 tt (k % 16) (omega arith))
 
 pub pattern-ones : (ram : List ℕ) → length ram ≡ 16 → (i k : ℕ) → bit (k % 16) (patternAt (set (set ram 8 255) 9 255) i) ≡ 1
-unfolding patternAt
+unfolding patternAt patternOf
 pattern-ones ram l i k =
-    rw (getD-set-same (set ram 8 255) 9 255 0 (rw (length-set ram 8 255) (omega arith)), getD-set-other (set ram 8 255) 9 8 255 0 (λ z. omega arith), getD-set-same ram 8 255 0 (omega arith), ones i)
-    (spread 1 k (omega arith))
+    let high = getD-set-same (set ram 8 255) 9 255 0 (rw (length-set ram 8 255) (omega arith)) in
+    let low = getD-set-other (set ram 8 255) 9 8 255 0 (λ z. omega arith) in
+    rw (high, low, getD-set-same ram 8 255 0 (omega arith), ones i) (spread 1 k (omega arith))

@@ -1,7 +1,7 @@
 -- Every figure that a sheet holds lies in the plane: the decoder gives a figure only where its tests of the corners hold, and a
 -- record that is refused gives none. No word of what else is refused.
-use mathlib.Core.Path.{_≡_, refl}
-use mathlib.Core.Bool.{Bool, true, false, cond, _&&_}
+use mathlib.Core.Path.{_≡_}
+use mathlib.Core.Bool.{true, _&&_}
 use mathlib.Core.List.{List, [], _∷_, _++_}
 use Prim.Native.Nat.{ℕ, zero, suc, _+_, _*_, _≤_, _<_}
 use native.Mathlib.Omega.{arith}

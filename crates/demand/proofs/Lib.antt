@@ -7,3 +7,4 @@ pub mod GlyphLaws
 pub mod InsideLaws
 pub mod SheetLaws
 pub mod Whole
+pub mod BenchLaws

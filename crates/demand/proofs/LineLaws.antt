@@ -1,9 +1,9 @@
 -- A line, from its first entry to its last dot: nine bytes of FIGS set DIR, N, D, D2 and D1; they fit an octant, whatever the ends;
 -- and the controller's walk is then the line that 01 says.
-use mathlib.Core.Path.{_≡_, refl, sym, ap, subst, _∙_}
+use mathlib.Core.Path.{refl, subst}
 use mathlib.Core.Bool.{false}
-use mathlib.Core.List.{List, [], _∷_, _++_}
-use Prim.Native.Nat.{ℕ, suc, _+_, _*_, _/_, _%_, _≤_, _<_}
+use mathlib.Core.List.{List, _∷_, _++_}
+use Prim.Native.Nat.{ℕ, suc, _+_, _*_, _<_}
 use native.Mathlib.Omega.{arith}
 use Rattle.dots.specs.declared.Operation.{Operation}
 use Rattle.dots.specs.Dot.{cursorAt}
@@ -13,7 +13,7 @@ use Rattle.geometry.proofs.WalkLaws.{Sized}
 use Rattle.geometry.proofs.LineLaws.{major-lt, line-drawn}
 use Rattle.records.specs.declared.Point.{Point}
 use Rattle.entries.specs.declared.Slope.{Slope}
-use Rattle.entries.specs.Entries.{both, minus14, slopeOf, lineBy, lineEntries}
+use Rattle.entries.specs.Entries.{both, minus14, slopeOf, lineEntries}
 use Rattle.registers.specs.declared.Drawing.{Drawing}
 use Rattle.registers.specs.Size.{dotsOf}
 use Rattle.registers.specs.State.{State}

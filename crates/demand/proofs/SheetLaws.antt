@@ -1,9 +1,9 @@
 -- From one figure to a sheet: a figure as it is given, its corners in any order and flat ones too, makes of every dot what 01 says;
 -- and figures one after the other make one after the other, as each leaves the controller as ready as it found it.
-use mathlib.Core.Path.{_≡_, refl, sym, ap, ap₂, subst, _∙_}
+use mathlib.Core.Path.{_≡_, refl, sym, ap₂, _∙_}
 use mathlib.Core.Bool.{Bool, true, false, cond, _||_, true≢false}
-use mathlib.Core.List.{List, [], _∷_, _++_}
-use Prim.Native.Nat.{ℕ, suc, _+_, _-_, _*_, _≤_, _<_, min, max}
+use mathlib.Core.List.{List, [], _∷_}
+use Prim.Native.Nat.{ℕ, suc, _+_, _*_, _≤_, _<_, min, max}
 use native.Mathlib.Omega.{arith}
 use lib.Dec.{eqb}
 use lib.ListN.{length, getD}
@@ -118,6 +118,7 @@ module _ (p h : ℕ) (sized : Sized p h) (t : List ℕ) (bytes : (i : ℕ) → g
         leads = leads-then (one .leads) (rest .leads);
         held = rest .held;
         long = rest .long ∙ one .long;
-        dots = λ x y v. rest .dots x y v ∙ figures-under l (λ u w. dot p u w (one .after .mem)) (figureMade t (r .op) (r .figure) (λ u w. dot p u w (s .mem))) x y (one .dots x y v);
+        dots = λ x y v. rest .dots x y v
+            ∙ figures-under l (λ u w. dot p u w (one .after .mem)) (figureMade t (r .op) (r .figure) (λ u w. dot p u w (s .mem))) x y (one .dots x y v);
         words = λ j k. rest .words j k ∙ one .words j k;
       }

@@ -2,10 +2,9 @@
 -- controller's running D, begun with D 2m - N, D1 2m and D2 2m - 2N, is geometry's error term, move by move.
 use mathlib.Core.Path.{_≡_, refl, sym, ap, ap₂, subst, _∙_}
 use mathlib.Core.Bool.{Bool, true, false, cond}
-use mathlib.Core.List.{List, [], _∷_, _++_}
 use Prim.Native.Nat.{ℕ, zero, suc, _+_, _-_, _*_, _%_, _≤_, _<_}
 use native.Mathlib.Omega.{arith}
-use lib.Dec.{eqb, eqb→eq, leb}
+use lib.Dec.{eqb, eqb→eq}
 use borrow.Author.Tests.{leb-true, eq-eqb}
 use Rattle.dots.proofs.Below.{below}
 use Rattle.geometry.proofs.ErrorLaws.{Ruled, ruled, ruledOn}

@@ -2,35 +2,30 @@
 -- the sheet's figures, and that P and H are in range; every figure lies in the plane; PITCH makes the pitch P; then SheetLaws.
 use mathlib.Core.Path.{_≡_, refl, sym, ap, subst, _∙_}
 use mathlib.Core.Bool.{true}
-use mathlib.Core.List.{List, [], _∷_, _++_}
-use Prim.Native.Nat.{ℕ, suc, _+_, _*_, _/_, _≤_, _<_}
+use mathlib.Core.List.{List}
+use Prim.Native.Nat.{ℕ, _+_, _*_, _/_, _≤_}
 use native.Mathlib.Omega.{arith}
 use lib.ListN.{length, getD, take, drop}
 use lib.Seq.{take-at}
 use Rattle.dots.specs.Dot.{dot}
-use Rattle.geometry.specs.Plane.{InPlane}
 use Rattle.geometry.proofs.WalkLaws.{Sized}
 use Rattle.records.specs.declared.Record.{Record}
-use Rattle.blocks.specs.declared.Answer.{Answer}
 use Rattle.entries.specs.Entries.{placed}
 use Rattle.entries.proofs.PutLaws.{placed-is}
-use Rattle.sheets.specs.Slots.{translated, translation}
-use Rattle.sheets.specs.Sheet.{roomOf, figuresOf, outcome, translateDef}
+use Rattle.sheets.specs.Slots.{translation}
+use Rattle.sheets.specs.Sheet.{figuresOf}
 use Rattle.sheets.proofs.SlotLaws.{translation-length}
 use Rattle.sheets.proofs.SheetLaws.{translated-means}
 use Rattle.registers.specs.declared.Registers.{Registers}
 use Rattle.registers.specs.State.{State, state}
-use Rattle.registers.specs.Typed.{Typed}
-use Rattle.units.specs.Run.{reasonOf, lengthB}
-use Rattle.sending.specs.Send.{Ready, sentAll}
-use Rattle.sending.proofs.WaitLaws.{Waiting, waiting, waiting-reason}
-use Rattle.sending.proofs.SendLaws.{Leads, leads-then}
+use Rattle.units.specs.Run.{lengthB}
+use Rattle.sending.specs.Send.{Ready}
+use Rattle.sending.proofs.WaitLaws.{Waiting, waiting, waiting-ready}
+use Rattle.sending.proofs.SendLaws.{leads-then}
 use Rattle.sending.proofs.GroupLaws.{acts-pitch}
-use Rattle.demand.specs.Picture.{figuresMade, figuresDots}
 use Rattle.demand.specs.Shown.{Shown, Bytes, PictureIsRight}
 use Rattle.demand.proofs.InsideLaws.{AllInside, sheet-inside}
-use Rattle.demand.proofs.DrawsLaws.{Held}
-use Rattle.demand.proofs.SheetLaws.{Makes, sheet-law}
+use Rattle.demand.proofs.SheetLaws.{sheet-law}
 
 -- the entries written are the translation
 taken-out : (o e : List ℕ) (n : ℕ) → length e ≡ n → n ≤ length o → take n (placed o 0 e) ≡ e
@@ -47,7 +42,7 @@ module _ (p h : ℕ) (sized : Sized p h) (table : List ℕ) (bytes : Bytes table
       let all = leads-then (pitch .leads mem lawful) (rest .leads) in
       record {
         accepted = all .accepted;
-        idle = ap (λ (s : State). reasonOf (s .regs)) (all .ends) ∙ waiting-reason (rest .after .regs) (rest .held .waits);
+        idle = subst (λ (s : State). Ready (s .regs)) (sym (all .ends)) (waiting-ready (rest .held .waits));
         dots = λ x y i. ap (λ (s : State). dot p x y (s .mem)) (all .ends) ∙ rest .dots x y i;
         words = λ j k. ap (λ (s : State). getD (s .mem) j 0) (all .ends) ∙ rest .words j k;
         long = ap (λ (s : State). length (s .mem)) (all .ends) ∙ rest .long;

@@ -4,7 +4,6 @@ use mathlib.Core.List.{List, [], _∷_}
 use Prim.Native.Nat.{ℕ, _+_, _*_, max}
 use lib.Dec.{eqb}
 use Rattle.dots.specs.declared.Operation.{Operation}
-use Rattle.records.specs.declared.Point.{Point}
 use Rattle.records.specs.declared.Figure.{Figure}
 use Rattle.records.specs.declared.Figure.the-variants.{Dot, Line, Rectangle, Glyph}
 use Rattle.records.specs.declared.Record.{Record}

@@ -8,7 +8,7 @@ use Rattle.dots.specs.Dot.{dot}
 use Rattle.registers.specs.declared.Registers.{Registers}
 use Rattle.registers.specs.State.{State, state}
 use Rattle.registers.specs.Typed.{Typed}
-use Rattle.units.specs.Run.{reasonOf, lengthB}
+use Rattle.units.specs.Run.{lengthB}
 use Rattle.records.specs.declared.Record.{Record}
 use Rattle.blocks.specs.declared.Answer.{Answer}
 use Rattle.sheets.specs.Sheet.{figuresOf, outcome, translateDef}
@@ -20,8 +20,8 @@ use Rattle.demand.specs.Picture.{figuresMade, figuresDots}
 pub record Shown (p h : ℕ) (table : List ℕ) (figures : List Record) (entries : List ℕ) (s : State) : Type 0 where
   -- no entry is refused, and each run ends with nothing in progress or queued
   pub accepted : AllAccepted s entries
-  -- the controller is idle at the end
-  pub idle : reasonOf (sentAll s entries .regs) ≡ 2
+  -- the controller is idle at the end: sound, in write mode, with its buffer empty and nothing being drawn
+  pub idle : Ready (sentAll s entries .regs)
   -- every dot of the picture is what the figures, in order, make of the earlier dot
   pub dots : (x y : ℕ) → InPlane p h x y → dot p x y (sentAll s entries .mem) ≡ figuresMade table figures (λ u v. dot p u v (s .mem)) x y
   -- every word past the picture is unaltered, and there are as many words as before

@@ -87,6 +87,11 @@ module _ (a b : Point) where
       (λ r d t. rw (r, d, t)) (λ r d t w. rw (r, d, t, w)) (λ r d u w. rw (r, d, u, w)) (λ r d u w t. rw (r, d, u, w, t))
       (λ r l u t. rw (r, l, u, t)) (λ r l u t w. rw (r, l, u, t, w)) (λ r l u d w. rw (r, l, u, d, w)) (λ r l u d w t. rw (r, l, u, d, w, t))
 
+-- the first test of `direction`, by the distances that it holds
+pub dir-first : {x y : ℕ} (a b : Point) → x ≡ distance (a .x) (b .x) → y ≡ distance (a .y) (b .y) → (rightB a b && downB a b && leb x y) ≡ true → 0 ≡ dirOf a b
+unfolding dirOf
+dir-first a b p q e = rw (← p, ← q, e)
+
 -- the place of the first `true`
 abbrev firstIn : List Bool → ℕ
 firstIn [] = 0

@@ -1,21 +1,17 @@
 -- FIGD: one unit for the command and one for each dot. After i of its units the figure stands at the i-th cursor of its walk and
 -- has made the cycles before it: each unit is one cycle and, but for the last, one step.
-use mathlib.Core.Path.{_≡_, refl, sym, ap, subst, _∙_}
+use mathlib.Core.Path.{_≡_, refl, ap, subst, _∙_}
 use mathlib.Core.Bool.{true}
 use mathlib.Core.List.{List, [], _∷_}
-use Prim.Native.Nat.{ℕ, zero, suc, _+_, _%_, _≤_, _<_}
+use Prim.Native.Nat.{ℕ, zero, suc, _+_, _≤_, _<_}
 use native.Mathlib.Omega.{arith}
-use lib.Dec.{ltb}
 use lib.ListN.{length}
 use borrow.Author.Tests.{lt-ltb, le-ltb}
 use Rattle.dots.specs.declared.Cursor.{Cursor}
-use Rattle.dots.specs.Step.{stepOf}
 use Rattle.registers.specs.declared.Command.the-variants.{Figd}
 use Rattle.registers.specs.declared.Work.the-variants.{Idle, Figure}
 use Rattle.registers.specs.declared.Drawing.{Drawing}
-use Rattle.registers.specs.declared.Progress.{Progress}
 use Rattle.registers.specs.declared.Registers.{Registers}
-use Rattle.registers.specs.Sound.{allBelow}
 use Rattle.registers.specs.Size.{dotsOf}
 use Rattle.registers.specs.Put.{putCursor, putProgress, putWork}
 use Rattle.registers.specs.State.{State, state}

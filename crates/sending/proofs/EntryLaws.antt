@@ -1,32 +1,24 @@
 -- Entries that set registers, as changes of registers: the command bytes of the translation, and one parameter byte of each of
 -- its commands. At a known command byte, and at a known command in progress, the definitions compute.
-use mathlib.Core.Path.{_≡_, refl, sym, ap, subst, _∙_}
-use mathlib.Core.Bool.{Bool, true, false, cond}
-use mathlib.Core.List.{List, [], _∷_, _++_}
-use Prim.Native.Nat.{ℕ, _+_, _*_, _/_, _%_, _≤_, _<_}
+use mathlib.Core.Path.{_≡_, refl, ap, _∙_}
+use mathlib.Core.Bool.{Bool, cond}
+use mathlib.Core.List.{List, [], _∷_}
+use Prim.Native.Nat.{ℕ, zero, suc, _+_, _<_}
 use native.Mathlib.Omega.{arith}
-use lib.Dec.{eqb, ltb}
-use lib.ListN.{length, set, length-set}
+use lib.ListN.{set}
 use borrow.Author.Tests.{lt-ltb}
-use Rattle.dots.specs.declared.Cursor.{Cursor}
-use Rattle.dots.specs.declared.Operation.{Operation}
-use Rattle.dots.specs.declared.Operation.the-variants.{Replace, Complement, Reset, Set}
 use Rattle.registers.specs.declared.Command.{Command}
 use Rattle.registers.specs.declared.Command.the-variants.{Zoom, Curs, Pram, Pitch, Figs, Wdat}
 use Rattle.registers.specs.declared.Transfer.the-variants.{Word}
-use Rattle.registers.specs.declared.Drawing.{Drawing}
-use Rattle.registers.specs.declared.Video.{Video}
 use Rattle.registers.specs.declared.Progress.{Progress}
 use Rattle.registers.specs.declared.Registers.{Registers}
-use Rattle.registers.specs.Fresh.{freshDrawing, emptyBuffer}
-use Rattle.registers.specs.Sound.{allBelow}
+use Rattle.registers.specs.Fresh.{freshDrawing}
 use Rattle.registers.specs.Put.{putCursor, putPitch, putDrawing, putOp, putRam, putVideo, putProgress, putZoom}
-use Rattle.registers.specs.State.{State, state}
+use Rattle.registers.specs.State.{state}
 use Rattle.commands.specs.Decode.{commandOf, familyOf}
 use Rattle.processor.specs.Command.{operationOf, commandTaken}
-use Rattle.processor.specs.Parameter.{cursBy, figsBy, zoomBy}
-use Rattle.processor.specs.Entry.{counted, parameterBy, parameterTaken, entryTaken}
-use Rattle.geometry.proofs.TestLaws.{cases}
+use Rattle.processor.specs.Parameter.{cursBy, figsBy, zoomBy, ramBy, pitchBy}
+use Rattle.processor.specs.Entry.{nextOf, counted, parameterBy, parameterTaken, entryTaken}
 use Rattle.sending.proofs.WaitLaws.{Waiting, drained, takenBy}
 use Rattle.sending.proofs.SendLaws.{Acts, acts-one}
 
@@ -35,13 +27,6 @@ abbrev pub progress : Command → ℕ → Progress
 progress c i = record { command = c; next = i; low = 0 }
 
 -- ---- command bytes
--- "0 REPLACE", "1 COMPLEMENT", "2 RESET", "3 SET"
-abbrev pub operationNumber : Operation → ℕ
-operationNumber Replace = 0
-operationNumber Complement = 1
-operationNumber Reset = 2
-operationNumber Set = 3
-
 module _ {r : Registers} (v : Waiting r) where
   pub pitch-command : Acts r (0x147 ∷ []) (putProgress (drained r) (progress Pitch 0))
   unfolding entryTaken commandTaken commandOf
@@ -64,19 +49,20 @@ module _ {r : Registers} (v : Waiting r) where
   unfolding entryTaken commandTaken commandOf
   figs-command = acts-one v (omega arith) (λ q. omega arith) (λ m. refl) refl refl refl
 
-  -- WDAT word, with the operation
-  pub wdat-command : (op : Operation) → Acts r ((0x120 + operationNumber op) ∷ []) (putProgress (putOp (drained r) op) (progress (Wdat Word) 0))
+  -- WDAT word, with the operation's number
+  pub wdat-command : (n : ℕ) → n < 4 → Acts r ((0x120 + n) ∷ []) (putProgress (putOp (drained r) (operationOf n)) (progress (Wdat Word) 0))
   unfolding entryTaken commandTaken commandOf familyOf operationOf
-  wdat-command Replace = acts-one v (omega arith) (λ q. omega arith) (λ m. refl) refl refl refl
-  wdat-command Complement = acts-one v (omega arith) (λ q. omega arith) (λ m. refl) refl refl refl
-  wdat-command Reset = acts-one v (omega arith) (λ q. omega arith) (λ m. refl) refl refl refl
-  wdat-command Set = acts-one v (omega arith) (λ q. omega arith) (λ m. refl) refl refl refl
+  wdat-command zero h = acts-one v (omega arith) (λ q. omega arith) (λ m. refl) refl refl refl
+  wdat-command (suc zero) h = acts-one v (omega arith) (λ q. omega arith) (λ m. refl) refl refl refl
+  wdat-command (suc (suc zero)) h = acts-one v (omega arith) (λ q. omega arith) (λ m. refl) refl refl refl
+  wdat-command (suc (suc (suc zero))) h = acts-one v (omega arith) (λ q. omega arith) (λ m. refl) refl refl refl
+  wdat-command (suc (suc (suc (suc n)))) h = absurd (omega arith)
 
 -- ---- parameter bytes
 -- one parameter of the command c
 module _ {r : Registers} (v : Waiting r) (b : ℕ) (byte : b < 256) (i : ℕ) (few : i < 16) where
   as-parameter : (c : Command) → r .progress ≡ progress c i → (m : List ℕ) → takenBy b r m ≡ parameterBy c i b (putProgress (drained r) (progress c (i + 1))) m
-  unfolding entryTaken parameterTaken
+  unfolding entryTaken parameterTaken nextOf
   as-parameter c e m =
       rw (lt-ltb b 256 byte)
       (ap (λ (p : Progress). parameterBy (p .command) (p .next) b (putProgress (drained r) (counted p)) m) e
@@ -86,10 +72,14 @@ module _ {r : Registers} (v : Waiting r) (b : ℕ) (byte : b < 256) (i : ℕ) (f
   curs-byte e = acts-one v (omega arith) (λ q. omega arith) (as-parameter Curs e) refl refl refl
 
   pub pram-byte : r .progress ≡ progress Pram i → Acts r (b ∷ []) (putProgress (putRam (drained r) (set (r .ram) i b)) (progress Pram (i + 1)))
+  unfolding ramBy
   pram-byte e =
       acts-one v (omega arith) (λ q. omega arith)
-      (λ m. as-parameter Pram e m ∙ ap (λ (t : Bool). state (cond t (putProgress (putRam (drained r) (set (r .ram) i b)) (progress Pram (i + 1))) (putProgress (drained r) (progress Pram (i + 1)))) m) (lt-ltb i 16 few))
+      (λ m. as-parameter Pram e m ∙ ap (λ (t : Bool). state (cond t (putRam next (set (r .ram) i b)) next) m) (lt-ltb i 16 few))
       refl refl refl
+    where
+      next : Registers
+      next = putProgress (drained r) (progress Pram (i + 1))
 
   pub figs-byte : r .progress ≡ progress Figs i → Acts r (b ∷ []) (putProgress (putDrawing (drained r) (figsBy i b (r .drawing))) (progress Figs (i + 1)))
   figs-byte e = acts-one v (omega arith) (λ q. omega arith) (as-parameter Figs e) refl refl refl
@@ -97,6 +87,7 @@ module _ {r : Registers} (v : Waiting r) (b : ℕ) (byte : b < 256) (i : ℕ) (f
 -- the one parameter of PITCH, and of ZOOM
 module _ {r : Registers} (v : Waiting r) (b : ℕ) (byte : b < 256) where
   pub pitch-byte : r .progress ≡ progress Pitch 0 → Acts r (b ∷ []) (putProgress (putPitch (drained r) b) (progress Pitch 1))
+  unfolding pitchBy
   pitch-byte e = acts-one v (omega arith) (λ q. omega arith) (as-parameter v b byte 0 (omega arith) Pitch e) refl refl refl
 
   pub zoom-byte : r .progress ≡ progress Zoom 0 → Acts r (b ∷ []) (putProgress (putVideo (drained r) (putZoom (r .video) b)) (progress Zoom 1))

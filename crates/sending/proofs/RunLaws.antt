@@ -1,12 +1,11 @@
 -- A run that ends because nothing is left to do: it does n units if there is something to do before each of them and nothing
 -- after the last, as each turn of the run looks at the reason to stop and else does one unit.
-use mathlib.Core.Path.{_≡_, refl, sym, ap, _∙_}
-use Prim.Native.Nat.{ℕ, zero, suc, _+_, _-_, _<_}
+use mathlib.Core.Path.{_≡_, refl, ap, _∙_}
+use Prim.Native.Nat.{ℕ, zero, suc, _+_, _<_}
 use native.Mathlib.Omega.{arith}
-use lib.Dec.{eqb}
 use Rattle.registers.specs.State.{State}
 use Rattle.units.specs.Unit.{unitDone}
-use Rattle.units.specs.Run.{Outcome, reasonOf, unitsDone, stopped, runFrom}
+use Rattle.units.specs.Run.{reasonOf, unitsDone, stopped, runFrom}
 
 -- one unit more is made last
 pub units-last : (n : ℕ) (s : State) → unitsDone (suc n) s ≡ unitDone (unitsDone n s)

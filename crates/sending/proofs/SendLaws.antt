@@ -5,7 +5,7 @@ use mathlib.Core.Bool.{Bool, true, false, cond}
 use mathlib.Core.List.{List, [], _∷_, _++_}
 use Prim.Native.Nat.{ℕ, zero, suc, _+_, _-_, _≤_, _<_}
 use native.Mathlib.Omega.{arith}
-use lib.Dec.{eqb, ltb, leb}
+use lib.Dec.{eqb, ltb}
 use lib.ListN.{length, length-append}
 use lib.Seq.{getD-set-same}
 use borrow.Author.Tests.{ltb-false, ne-eqb}
@@ -19,12 +19,11 @@ use Rattle.registers.specs.Put.{putBuffer}
 use Rattle.registers.specs.State.{State, state}
 use Rattle.processor.specs.Entry.{entryTaken}
 use Rattle.units.specs.Unit.{fetched, fetchBy, unitBy, unitDone}
-use Rattle.units.specs.Run.{Outcome, reasonOf, unitsDone, stopped, runFrom, lengthB, runDone}
-use Rattle.ports.specs.declared.Answer.{Answer}
+use Rattle.units.specs.Run.{reasonOf, unitsDone, stopped, lengthB, runDone}
 use Rattle.ports.specs.Port.{granted, queued, queuedOr3, commandIn, parameterIn, commandWritten, parameterWritten}
-use Rattle.sending.specs.Send.{written, fullBudget, Reply, sent, left, Accepted, sentAll, AllAccepted, unitsOf}
+use Rattle.sending.specs.Send.{written, fullBudget, Reply, sent, left, sentAll, AllAccepted, unitsOf}
 use Rattle.sending.proofs.RunLaws.{runs}
-use Rattle.sending.proofs.WaitLaws.{Waiting, waiting-reason, drained, takenBy, waiting-sound, queued-sound, units-lawful}
+use Rattle.sending.proofs.WaitLaws.{Waiting, waiting-reason, takenBy, waiting-sound, queued-sound, units-lawful}
 
 -- ---- lists of entries
 -- entries that are all accepted, the state that they lead to, and how many units their runs make beside one for each entry

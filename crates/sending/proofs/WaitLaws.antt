@@ -1,6 +1,6 @@
 -- A controller that waits for entries: the start condition as the laws of sending use it. It stays sound with an entry more in its
 -- buffer, and whatever that entry does, by crate laws: the memory has no part in it, so an empty one serves.
-use mathlib.Core.Path.{_≡_, refl, ap, subst, _∙_}
+use mathlib.Core.Path.{_≡_, refl, subst}
 use mathlib.Core.Bool.{true}
 use mathlib.Core.List.{List, []}
 use Prim.Native.Nat.{ℕ, _<_}
@@ -17,7 +17,7 @@ use Rattle.registers.specs.Typed.{Typed}
 use Rattle.processor.specs.Entry.{entryTaken}
 use Rattle.units.specs.Run.{reasonOf, unitsDone}
 use Rattle.ports.specs.Port.{queued}
-use Rattle.laws.proofs.KeptLaws.{Lawful, Whole, lawful-idle, lawful-sound, buffer-kept}
+use Rattle.laws.proofs.KeptLaws.{Lawful, lawful-idle, lawful-sound, buffer-kept}
 use Rattle.laws.proofs.KeptBufferLaws.{empty-queue, pushed-queue}
 use Rattle.laws.proofs.KeptProcessorLaws.{entry-kept}
 use Rattle.laws.proofs.KeptUnitLaws.{units-kept}
@@ -31,6 +31,9 @@ pub record Waiting (r : Registers) : Type 0 where
 
 pub waiting : (r : Registers) → Ready r → Typed r → Waiting r
 waiting r v t = record { lawful = lawful-idle r (v .sound) t (v .idle); mode = v .mode; idle = v .idle; empty = v .empty }
+
+pub waiting-ready : {r : Registers} → Waiting r → Ready r
+waiting-ready {r} v = record { sound = lawful-sound r (v .lawful); mode = v .mode; empty = v .empty; idle = v .idle }
 
 pub waiting-reason : (r : Registers) → Waiting r → reasonOf r ≡ 2
 unfolding reasonOf

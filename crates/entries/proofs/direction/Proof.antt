@@ -1,5 +1,6 @@
 -- `direction` gives `dirOf`: its eight tests are the definition's, in the same order.
 use Rattle.entries.specs.Entries.{dirOf}
+use Rattle.entries.proofs.SlopeLaws.{dir-first}
 use borrow.Author.Needs.{needs}
 use Rattle.entries.proofs.direction.Statement.{statement}
 use Rattle.entries.proofs.direction.Tie as tie
@@ -17,8 +18,7 @@ apart-requires-2 c κs = search needs
 
 -- src/lib.rt:75:9
 returns : tie.Need-returns
-unfolding dirOf
-returns c = rw (← c .before .before .before .before .before .before .before .before .before .before .apart .ensures, ← c .before .before .before .before .before .before .before .before .before .apart2 .ensures, c .if1 .taken)
+returns c = dir-first _ _ (c .before .before .before .before .before .before .before .before .before .before .apart .ensures) (c .before .before .before .before .before .before .before .before .before .apart2 .ensures) (c .if1 .taken)
 
 -- src/lib.rt:78:9
 returns-2 : tie.Need-returns-2
