@@ -51,7 +51,7 @@ static size_t load_file(const char *folder, const char *name, uint8_t *to, size_
 
 static void load_sheet(struct load *l, const char *folder, const char *file, uint32_t p, uint32_t h) {
     size_t size = load_file(folder, file, sheet, sizeof sheet);
-    kranichseil_translation t = kranichseil_translate(sheet, size, p, h, table, table_size, l->entries, MOST);
+    struct kranichseil_translation t = kranichseil_translate(sheet, size, p, h, table, table_size, l->entries, MOST);
     if (t.number) fail("the translator refuses", file);
     l->count = t.first;
 }
@@ -67,17 +67,17 @@ static void load_fills(struct load *l) {
 /* ---- the two sides: entries are sent until the buffer is full, then the controller runs until it is idle or has done `most` units */
 
 static unsigned long long proved(const struct load *l, uint16_t *mem, uint32_t most) {
-    kranichseil_registers r = kranichseil_fresh();
+    struct kranichseil_registers r = kranichseil_fresh();
     unsigned long long units = 0;
     size_t i = 0;
     while (i < l->count && units < most) {
         for (; i < l->count; i++) {
             uint16_t e = l->entries[i];
-            kranichseil_answer a = e < 256 ? kranichseil_parameter(r, (uint8_t)e) : kranichseil_command(r, (uint8_t)e);
+            struct kranichseil_answer a = e < 256 ? kranichseil_parameter(r, (uint8_t)e) : kranichseil_command(r, (uint8_t)e);
             if (a.number) break;
             r = a.regs;
         }
-        kranichseil_report q = kranichseil_board_run(&r, mem, LENGTH, most - (uint32_t)units);
+        struct kranichseil_report q = kranichseil_board_run(&r, mem, LENGTH, most - (uint32_t)units);
         if (q.number || q.why == 3) fail("the run stopped within", l->name);
         units += q.count;
     }
