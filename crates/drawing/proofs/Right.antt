@@ -12,7 +12,7 @@ use Rattle.dots.specs.Dot.{dot}
 use Rattle.registers.specs.declared.Registers.{Registers}
 use Rattle.registers.specs.Sound.{soundB}
 use Rattle.registers.specs.State.{State, state}
-use Rattle.units.specs.Run.{reasonOf, lengthB}
+use Rattle.units.specs.Run.{lengthB}
 use Rattle.blocks.specs.declared.Answer.{Answer}
 use Rattle.entries.specs.Entries.{placed}
 use Rattle.entries.proofs.PutLaws.{placed-is}
@@ -20,7 +20,7 @@ use Rattle.sheets.specs.Slots.{translation}
 use Rattle.sheets.specs.Sheet.{figuresOf, translateDef}
 use Rattle.sheets.proofs.SlotLaws.{translation-length}
 use Rattle.sheets.proofs.SheetLaws.{translated-means}
-use Rattle.sending.specs.Send.{AllAccepted, sentAll, unitsOf}
+use Rattle.sending.specs.Send.{Ready, AllAccepted, sentAll, unitsOf}
 use Rattle.demand.proofs.Whole.{whole}
 use Rattle.drawing.specs.Draw.{Outcome, outcome, sendingDone, allSent, drawnBy, sheetDrawn}
 use Rattle.drawing.specs.Right.{Right, SheetIsDrawn}
@@ -62,7 +62,7 @@ drawn-right sheet p h glyphs r entries mem q out′ drawn e z bytes ready typed 
       number = ap (λ (x : Outcome). x .drawn .number) all;
       entries = ap (λ (x : Outcome). take (x .drawn .first) (x .entries)) all ∙ is;
       accepted = subst (AllAccepted (state r mem)) is (shown .accepted);
-      idle = ap (λ (x : Outcome). reasonOf (x .drawn .regs)) all ∙ shown .idle;
+      idle = subst Ready (sym (ap (λ (x : Outcome). x .drawn .regs) all)) (shown .idle);
       dots = λ x y i. ap (λ (w : Outcome). dot p x y (w .mem)) all ∙ shown .dots x y i;
       words = λ j k. ap (λ (w : Outcome). getD (w .mem) j 0) all ∙ shown .words j k;
       long = ap (λ (w : Outcome). length (w .mem)) all ∙ shown .long;

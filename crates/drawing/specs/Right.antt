@@ -9,7 +9,7 @@ use Rattle.dots.specs.Dot.{dot}
 use Rattle.registers.specs.declared.Registers.{Registers}
 use Rattle.registers.specs.State.{state}
 use Rattle.registers.specs.Typed.{Typed}
-use Rattle.units.specs.Run.{reasonOf, lengthB}
+use Rattle.units.specs.Run.{lengthB}
 use Rattle.records.specs.declared.Record.{Record}
 use Rattle.sheets.specs.Slots.{translation}
 use Rattle.sheets.specs.Sheet.{figuresOf, translateDef}
@@ -27,8 +27,8 @@ pub record Right (p h : ℕ) (glyphs : List ℕ) (figures : List Record) (r : Re
   -- the lent entries start with the translation, and none of them was refused
   pub entries : take (q .first) out ≡ translation glyphs p figures
   pub accepted : AllAccepted (state r mem) (translation glyphs p figures)
-  -- "nothing is in progress or, in write mode, queued", which is 2
-  pub idle : reasonOf (q .regs) ≡ 2
+  -- the controller is idle at the end: sound, in write mode, with its buffer empty and nothing being drawn
+  pub idle : Ready (q .regs)
   -- every dot of the picture is what the figures, in order, make of the earlier dot
   pub dots : (x y : ℕ) → InPlane p h x y → dot p x y drawn ≡ figuresMade glyphs figures (λ u v. dot p u v mem) x y
   -- every word past the picture is unaltered, and there are as many words as before
