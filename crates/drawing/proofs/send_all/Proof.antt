@@ -46,7 +46,7 @@ shared-slice-read-send c = omega (arith, c .before .before .before .before .befo
 
 -- src/lib.rt:58:13
 send-requires : tie.Need-send-requires Inv-loop μ-loop
-send-requires c κs = c .before .before .before .before .before .before .pre .1 _ (c .before .before .loop-test .taken)
+send-requires c κs = c .before .before .before .before .before .before .pre .1 (c .before .before .before .loop .k) (omega (arith, c .before .before .loop-test .taken))
 
 -- src/lib.rt:59:18
 cast-units : tie.Need-cast-units Inv-loop μ-loop
@@ -69,7 +69,7 @@ loop-less c = omega (arith, c .before .before .before .before .before .before .b
 loop-again : tie.Need-loop-again Inv-loop μ-loop
 loop-again c = let l = c .before .before .before .before .before .before .before .before .loop in
     let fits = c .before .before .before .before .before .before .before .before .before .before .before .pre .0 in
-    let more = c .before .before .before .before .before .before .before .loop-test .taken in
+    let more : l .k < c .before .before .before .before .before .before .before .before .before .before .before .args .n = omega (arith, c .before .before .before .before .before .before .before .loop-test .taken) in
     record {
       within = omega arith;
       long = c .before .before .before .before .send .kept .1 .1 .0 ∙ l .inv .long;
@@ -84,7 +84,9 @@ same-length c = c .before .loop .inv .long
 
 -- src/lib.rt:50:1
 returns : tie.Need-returns Inv-loop μ-loop
-returns c = let l = c .before .loop in all-sent _ _ _ _ _ _ (c .before .before .before .before .pre .0) (c .loop-test .left) (l .inv .left) (l .inv .counts)
+returns c = let l = c .before .loop in
+    let done : c .before .before .before .before .args .n ≤ l .k = omega (arith, c .loop-test .left) in
+    all-sent _ _ _ _ _ _ (c .before .before .before .before .pre .0) done (l .inv .left) (l .inv .counts)
 
 pub send-all-spec : {M : Type 1} → statement M
 send-all-spec =
