@@ -9,7 +9,10 @@ fn say_meaning(fd: i32, number: u8) -> bool {
         12 => io::write_all(fd, b"the glyph bytes are no multiple of 8, or over 2,048"),
         13 => io::write_all(fd, b"the sheet's length is wrong"),
         14 => io::write_all(fd, b"a block's check is wrong"),
-        15 => io::write_all(fd, b"a block's heading, spare bytes or unused records are wrong"),
+        15 => io::write_all(
+            fd,
+            b"a block's heading, spare bytes or unused records are wrong",
+        ),
         16 => io::write_all(fd, b"a record's form is wrong"),
         17 => io::write_all(fd, b"a record names a glyph that is not in the table"),
         18 => io::write_all(fd, b"a glyph's factor is not 1 to 16"),
