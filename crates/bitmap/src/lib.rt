@@ -1,7 +1,7 @@
 // The bytes of a portable bitmap (PBM, P4): there the most significant bit is leftmost, here a word's bit 0 is.
 ghost use mathlib.Core.Path.{_≡_};
 ghost use Prim.Native.Nat.{_+_, _*_, _/_, _%_, _<_};
-ghost use lib.ListN.{getD, set};
+ghost use lib.ListN.{getD};
 ghost use Rattle.bitmap.specs.Image.{reversedOf, halfOf, byteAt, imageOf};
 
 // A byte with its bits in reverse.

@@ -1,6 +1,6 @@
 -- One law for each way out of `draw_sheet`, and that two allowed answers are equal. True because the tests of the code run in the
 -- definition's order, and the translator leaves its output as it was where it refuses.
-use mathlib.Core.Path.{_≡_, refl, sym, ap, _∙_}
+use mathlib.Core.Path.{_≡_, sym, ap, _∙_}
 use mathlib.Core.Bool.{true, false}
 use mathlib.Core.List.{List}
 use Prim.Native.Nat.{ℕ}
@@ -8,14 +8,14 @@ use lib.ListN.{length, take}
 use borrow.Author.Tests.{eq-eqb, ne-eqb}
 use Rattle.registers.specs.declared.Registers.{Registers}
 use Rattle.registers.specs.Sound.{soundB}
-use Rattle.registers.specs.State.{State, state}
+use Rattle.registers.specs.State.{state}
 use Rattle.units.specs.Run.{lengthB}
 use Rattle.blocks.specs.declared.Answer.{Answer}
 use Rattle.sheets.specs.Sheet.{answerOf, translateDef}
 use Rattle.sheets.specs.Sheet.{Outcome as Translated, outcome as translated}
 use Rattle.drawing.specs.declared.Drawn.{Drawn}
 use Rattle.drawing.specs.declared.Sending.{Sending}
-use Rattle.drawing.specs.Draw.{sending, sendingDone, SentOutcome, Outcome, outcome, refusal, allSent, drawnBy, sheetDrawn}
+use Rattle.drawing.specs.Draw.{sending, sendingDone, Outcome, outcome, refusal, allSent, drawnBy, sheetDrawn}
 
 module _ (sheet : List ℕ) (p h : ℕ) (glyphs : List ℕ) (r : Registers) (entries mem : List ℕ) where
   abbrev all : Outcome

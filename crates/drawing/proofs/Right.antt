@@ -3,7 +3,7 @@
 use mathlib.Core.Path.{_≡_, refl, sym, ap, subst, _∙_}
 use mathlib.Core.Bool.{true}
 use mathlib.Core.List.{List}
-use Prim.Native.Nat.{ℕ, _+_, _*_, _≤_, _<_}
+use Prim.Native.Nat.{ℕ, _+_}
 use native.Mathlib.Omega.{arith}
 use lib.ListN.{length, getD, take, drop}
 use lib.Seq.{take-at}
@@ -11,19 +11,18 @@ use borrow.Author.Tests.{eq-eqb}
 use Rattle.dots.specs.Dot.{dot}
 use Rattle.registers.specs.declared.Registers.{Registers}
 use Rattle.registers.specs.Sound.{soundB}
-use Rattle.registers.specs.State.{State, state}
+use Rattle.registers.specs.State.{state}
 use Rattle.units.specs.Run.{lengthB}
 use Rattle.blocks.specs.declared.Answer.{Answer}
-use Rattle.entries.specs.Entries.{placed}
 use Rattle.entries.proofs.PutLaws.{placed-is}
 use Rattle.sheets.specs.Slots.{translation}
 use Rattle.sheets.specs.Sheet.{figuresOf, translateDef}
 use Rattle.sheets.proofs.SlotLaws.{translation-length}
 use Rattle.sheets.proofs.SheetLaws.{translated-means}
-use Rattle.sending.specs.Send.{Ready, AllAccepted, sentAll, unitsOf}
+use Rattle.sending.specs.Send.{Ready, AllAccepted}
 use Rattle.demand.proofs.Whole.{whole}
-use Rattle.drawing.specs.Draw.{Outcome, outcome, sendingDone, allSent, drawnBy, sheetDrawn}
-use Rattle.drawing.specs.Right.{Right, SheetIsDrawn}
+use Rattle.drawing.specs.Draw.{Outcome, sendingDone, allSent, sheetDrawn}
+use Rattle.drawing.specs.Right.{SheetIsDrawn}
 
 -- what the definition is where nothing is refused
 module _ (sheet : List ℕ) (p h : ℕ) (glyphs : List ℕ) (r : Registers) (entries mem : List ℕ) where

@@ -1,11 +1,10 @@
 -- Entries sent one at a time: the port of one, its run, and the loop. What is left to send from here makes what all of them make
 -- from the start, and the units reported so far are what the rest lacks of the whole. True because `sentAll` and `unitsOf` take
 -- the first entry of a list first.
-use mathlib.Core.Path.{_≡_, refl, sym, ap, _∙_}
+use mathlib.Core.Path.{_≡_, sym, ap, _∙_}
 use mathlib.Core.List.{List, [], _∷_}
-use Prim.Native.Nat.{ℕ, suc, _+_, _-_, _*_, _%_, _≤_, _<_}
+use Prim.Native.Nat.{ℕ, suc, _+_, _-_, _%_, _≤_, _<_}
 use native.Mathlib.Omega.{arith}
-use native.Mathlib.Numerals.{add-one}
 use lib.ListN.{length, getD, take, drop, drop-of-length-le}
 use lib.Seq.{drop-cons, length-take-le, getD-take}
 use borrow.Author.Tests.{lt-ltb, le-ltb}

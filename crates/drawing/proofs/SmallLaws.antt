@@ -1,6 +1,6 @@
 -- The entries that the translator wrote have nine bits each, so that both ports can be sent them: "commands are the byte + 256".
 -- Seen entry by entry; a glyph's rows are bytes of the lent table, its factor is 1 to 16 because the decoder lets no other pass.
-use mathlib.Core.Path.{_≡_, refl, sym, ap, subst, _∙_}
+use mathlib.Core.Path.{_≡_, sym, ap, subst, _∙_}
 use mathlib.Core.Bool.{Bool, true, false, cond}
 use mathlib.Core.List.{List, [], _∷_, _++_}
 use Prim.Native.Nat.{ℕ, zero, suc, _+_, _*_, _/_, _≤_, _<_}
@@ -14,14 +14,14 @@ use Rattle.records.specs.declared.Figure.{Figure}
 use Rattle.records.specs.declared.Figure.the-variants.{Dot, Line, Rectangle, Glyph}
 use Rattle.blocks.specs.declared.Answer.{Answer}
 use Rattle.entries.specs.declared.Slope.{Slope}
-use Rattle.entries.specs.Entries.{opNumber, eadOf, cursorEntries, headEntries, both, dirFits, dirOf, slopeOf, lineBy, dotEntries, lineEntries, rectangleEntries, glyphEntries, distance, least, greatest, flatB, plain, foot, rowsOf, figureEntries, entriesOf, placed}
+use Rattle.entries.specs.Entries.{opNumber, eadOf, cursorEntries, headEntries, both, dirFits, dirOf, slopeOf, lineBy, dotEntries, lineEntries, rectangleEntries, glyphEntries, distance, least, greatest, flatB, plain, foot, rowsOf, figureEntries, entriesOf}
 use Rattle.entries.proofs.PutLaws.{placed-is, placed-length}
 use Rattle.sheets.specs.Slots.{translated, translation}
 use Rattle.sheets.specs.Sheet.{figuresOf, outcome, translateDef}
 use Rattle.sheets.proofs.SlotLaws.{translation-length}
 use Rattle.sheets.proofs.SheetLaws.{translated-means}
 use Rattle.demand.specs.Shown.{Bytes}
-use Rattle.demand.proofs.InsideLaws.{Square, Inside, AllInside, sheet-inside}
+use Rattle.demand.proofs.InsideLaws.{Inside, AllInside, sheet-inside}
 use Rattle.drawing.specs.Draw.{Nine}
 
 -- ---- lists of small numbers
