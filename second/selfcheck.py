@@ -9,9 +9,10 @@ sentences with pencil and paper, not taken from any program.
 import sys
 
 from bench import Bench, digest
-from chip import NAMES, logic_unit, step, whole_word_move
+from commands import NAMES
 from plane import border_dots, dots, glyph_dots, line_dots
 from sheet import DOT, GLYPH, LINE, RECTANGLE, Figure, Picture, block_sum, translate
+from steps import logic_unit, step, whole_word_move
 
 ACCEPTANCES = ("M 0", "W 0", "C 0", "P 0", "L 0")
 

@@ -17,18 +17,20 @@ import time
 HERE = os.path.dirname(os.path.abspath(__file__))
 sys.path.insert(0, os.path.join(HERE, os.pardir, "second"))
 
-import generate                      # noqa: E402
+from basics import LENGTHS, LENGTH_WEIGHTS  # noqa: E402
 from bench import Bench              # noqa: E402
+from building import with_check      # noqa: E402
 from chip import Chip                # noqa: E402
+from generate import Generator       # noqa: E402
 
 
-class Maker(generate.Generator):
+class Maker(Generator):
     """The generator's sheets, with larger figures now and then."""
 
     def near(self, value, limit):
         if self.chance(0.1):
             return self.pick([0, limit - 1, self.below(limit)])
-        return generate.Generator.near(self, value, limit)
+        return Generator.near(self, value, limit)
 
 
 def random_registers(chip, random):
@@ -45,7 +47,7 @@ def random_registers(chip, random):
 
 def one_sheet(maker, bench):
     maker.lines = []
-    maker.length = maker.random.choices(generate.LENGTHS, generate.LENGTH_WEIGHTS)[0]
+    maker.length = maker.random.choices(LENGTHS, LENGTH_WEIGHTS)[0]
     words = maker.below(min(255, maker.length)) + 1
     if maker.chance(0.5):
         words = maker.below(min(12, maker.length)) + 1
@@ -53,7 +55,7 @@ def one_sheet(maker, bench):
     maker.set_picture(words, height if maker.chance(0.5) else maker.below(height) + 1)
     maker.choose_glyphs(maker.pick([1, 2, 3, 256]) if maker.chance(0.3) else 2)
     bodies, needed = maker.random_blocks()
-    maker.emit_sheet(b"".join(generate.with_check(body) for body in bodies))
+    maker.emit_sheet(b"".join(with_check(body) for body in bodies))
     bench.chip = Chip(maker.length)
     bench.chip.memory = [maker.random.getrandbits(16) for _ in range(maker.length)]
     random_registers(bench.chip, maker.random)

@@ -2,7 +2,7 @@
 
     python3 mutants.py SCRIPT EXPECTED
 
-applies each mutant of mutants.txt to a temporary copy of the folder
+applies each mutant of the folder `mutants` to a temporary copy of the folder
 `second`, runs it on SCRIPT and holds its output against EXPECTED, which is
 the output of the second program as it is. A mutant is stopped at its first
 differing line. All must be told apart: otherwise the exit status is 1 and
@@ -103,7 +103,8 @@ def main():
         return 2
     with open(sys.argv[2], "rb") as file:
         expected = file.read().splitlines(keepends=True)
-    mutants = read_mutants(os.path.join(HERE, "mutants.txt"))
+    folder = os.path.join(HERE, "mutants")
+    mutants = [one for name in sorted(os.listdir(folder)) for one in read_mutants(os.path.join(folder, name))]
     waiting, results = list(enumerate(mutants)), {}
     start = time.time()
     threads = [threading.Thread(target=work, args=(waiting, sys.argv[1], expected, results))

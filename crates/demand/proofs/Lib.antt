@@ -8,3 +8,4 @@ pub mod InsideLaws
 pub mod SheetLaws
 pub mod Whole
 pub mod BenchLaws
+pub mod PictureLaws

@@ -1,0 +1,41 @@
+// What stands on the bench: the registers, and how much of each buffer is in use.
+use registers::Registers;
+
+pub struct Desk {
+    pub regs: Registers,
+    // The words of the memory.
+    pub words: usize,
+    // The picture's size: words in a line, and lines.
+    pub across: u32,
+    pub down: u32,
+    // The bytes of the glyph table, and of the sheet.
+    pub glyphs: usize,
+    pub sheet: usize,
+    // The characters of answers that are not yet written out.
+    pub held: usize,
+}
+
+// Before the first line.
+pub fn start() -> Desk {
+    Desk {
+        regs: registers::fresh(),
+        words: 16,
+        across: 40,
+        down: 400,
+        glyphs: 0,
+        sheet: 0,
+        held: 0,
+    }
+}
+
+pub fn with_regs(d: Desk, r: Registers) -> Desk {
+    let mut n = d;
+    n.regs = r;
+    n
+}
+
+pub fn with_held(d: Desk, held: usize) -> Desk {
+    let mut n = d;
+    n.held = held;
+    n
+}

@@ -1,0 +1,58 @@
+-- One law for each way out of `draw_sheet`, and that two allowed answers are equal. True because the tests of the code run in the
+-- definition's order, and the translator leaves its output as it was where it refuses.
+use mathlib.Core.Path.{_≡_, refl, sym, ap, _∙_}
+use mathlib.Core.Bool.{true, false}
+use mathlib.Core.List.{List}
+use Prim.Native.Nat.{ℕ}
+use lib.ListN.{length, take}
+use borrow.Author.Tests.{eq-eqb, ne-eqb}
+use Rattle.registers.specs.declared.Registers.{Registers}
+use Rattle.registers.specs.Sound.{soundB}
+use Rattle.registers.specs.State.{State, state}
+use Rattle.units.specs.Run.{lengthB}
+use Rattle.blocks.specs.declared.Answer.{Answer}
+use Rattle.sheets.specs.Sheet.{answerOf, translateDef}
+use Rattle.sheets.specs.Sheet.{Outcome as Translated, outcome as translated}
+use Rattle.drawing.specs.declared.Drawn.{Drawn}
+use Rattle.drawing.specs.declared.Sending.{Sending}
+use Rattle.drawing.specs.Draw.{sending, sendingDone, SentOutcome, Outcome, outcome, refusal, allSent, drawnBy, sheetDrawn}
+
+module _ (sheet : List ℕ) (p h : ℕ) (glyphs : List ℕ) (r : Registers) (entries mem : List ℕ) where
+  abbrev all : Outcome
+  all = sheetDrawn sheet p h glyphs r entries mem
+
+  pub way-unsound : {q : Drawn} → soundB r ≡ false → q ≡ refusal 1 0 0 r → outcome q entries mem ≡ all
+  unfolding sheetDrawn
+  way-unsound s e = rw (e, s)
+
+  module _ (s : soundB r ≡ true) where
+    pub way-mislong : {q : Drawn} → lengthB (length mem) ≡ false → q ≡ refusal 2 0 0 r → outcome q entries mem ≡ all
+    unfolding sheetDrawn
+    way-mislong l e = rw (e, s, l)
+
+    module _ (l : lengthB (length mem) ≡ true) {a : Answer} {out : List ℕ} (t : translated a out ≡ translateDef sheet p h glyphs entries) where
+      past : all ≡ drawnBy a out r entries mem
+      unfolding sheetDrawn
+      past = rw (s, l) (sym (ap (λ (x : Translated). drawnBy (x .answer) (x .out) r entries mem) t))
+
+      -- a refused translation leaves the output as it was
+      unaltered : (a .number ≡ 0 → ⊥) → out ≡ entries
+      unfolding translateDef
+      unaltered z =
+          let e : a ≡ answerOf sheet p h glyphs (length entries) = ap (λ (x : Translated). x .answer) t in
+          ap (λ (x : Translated). x .out) t ∙ rw (← e, ne-eqb (a .number) 0 z)
+
+      pub way-refused : {q : Drawn} → (a .number ≡ 0 → ⊥) → q ≡ refusal (a .number) (a .first) (a .second) r → outcome q out mem ≡ all
+      way-refused z e = rw (past, e, unaltered z, ne-eqb (a .number) 0 z)
+
+      pub way-sent : {q : Sending} {m : List ℕ} → a .number ≡ 0 → sending q m ≡ sendingDone (state r mem) (take (a .first) out)
+          → outcome (record { number = 0; first = a .first; second = a .second; units = q .units; regs = q .regs }) out m ≡ all
+      way-sent z e = ap (allSent a out) e ∙ rw (past, eq-eqb (a .number) 0 z)
+
+  -- two allowed answers are equal, and so are the entries and the memories
+  pub only : {q w : Drawn} {a b m n : List ℕ} → outcome q a m ≡ all → outcome w b n ≡ all → (q ≡ w) × (a ≡ b) × (m ≡ n)
+  only e f = (
+    ap (λ (x : Outcome). x .drawn) (e ∙ sym f),
+    ap (λ (x : Outcome). x .entries) (e ∙ sym f),
+    ap (λ (x : Outcome). x .mem) (e ∙ sym f),
+  )

@@ -1,0 +1,4 @@
+pub mod SendLaws
+pub mod SmallLaws
+pub mod DrawLaws
+pub mod Right

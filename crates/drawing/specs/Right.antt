@@ -1,0 +1,49 @@
+-- Demand 3 of the function that draws a sheet: what its own answer says of the picture. `drawn-right` of proofs/Right.antt proves the
+-- last definition of this file from the function's contract and from demand's `whole`.
+use mathlib.Core.Path.{_≡_}
+use mathlib.Core.Bool.{true}
+use mathlib.Core.List.{List}
+use Prim.Native.Nat.{ℕ, _+_, _*_, _≤_, _<_}
+use lib.ListN.{length, getD, take}
+use Rattle.dots.specs.Dot.{dot}
+use Rattle.registers.specs.declared.Registers.{Registers}
+use Rattle.registers.specs.State.{state}
+use Rattle.registers.specs.Typed.{Typed}
+use Rattle.units.specs.Run.{lengthB}
+use Rattle.records.specs.declared.Record.{Record}
+use Rattle.sheets.specs.Slots.{translation}
+use Rattle.sheets.specs.Sheet.{figuresOf, translateDef}
+use Rattle.geometry.specs.Plane.{InPlane}
+use Rattle.sending.specs.Send.{Ready, AllAccepted}
+use Rattle.demand.specs.Picture.{figuresMade, figuresDots}
+use Rattle.demand.specs.Shown.{Bytes}
+use Rattle.drawing.specs.declared.Drawn.{Drawn}
+use Rattle.drawing.specs.Draw.{outcome, sheetDrawn}
+
+-- from the registers r and the memory mem the answer q, the entries out and the memory drawn show the figures in a plane of p words by h lines
+pub record Right (p h : ℕ) (glyphs : List ℕ) (figures : List Record) (r : Registers) (mem : List ℕ) (q : Drawn) (out drawn : List ℕ) : Type 0 where
+  -- "Success is number 0"
+  pub number : q .number ≡ 0
+  -- the lent entries start with the translation, and none of them was refused
+  pub entries : take (q .first) out ≡ translation glyphs p figures
+  pub accepted : AllAccepted (state r mem) (translation glyphs p figures)
+  -- the controller is idle at the end: sound, in write mode, with its buffer empty and nothing being drawn
+  pub idle : Ready (q .regs)
+  -- every dot of the picture is what the figures, in order, make of the earlier dot
+  pub dots : (x y : ℕ) → InPlane p h x y → dot p x y drawn ≡ figuresMade glyphs figures (λ u v. dot p u v mem) x y
+  -- every word past the picture is unaltered, and there are as many words as before
+  pub words : (j : ℕ) → p * h ≤ j → getD drawn j 0 ≡ getD mem j 0
+  pub long : length drawn ≡ length mem
+  -- one unit for each entry and one for each dot
+  pub units : q .units ≡ q .first + figuresDots figures
+
+-- Take what `draw_sheet` answers, as its contract says it: for a sheet, P and H, glyph bytes and room for the entries that the translator accepts; a
+-- register set that is sound, in write mode, with its buffer empty and nothing being drawn, whatever else it holds (`Typed` is
+-- what its types say); and a memory of a lawful length that the picture fits, whatever it holds. Then the picture is drawn.
+abbrev pub SheetIsDrawn : Type 0
+SheetIsDrawn =
+    (sheet : List ℕ) (p h : ℕ) (glyphs : List ℕ) (r : Registers) (entries mem : List ℕ) (q : Drawn) (out drawn : List ℕ)
+    → outcome q out drawn ≡ sheetDrawn sheet p h glyphs r entries mem
+    → translateDef sheet p h glyphs entries .answer .number ≡ 0 → Bytes glyphs
+    → Ready r → Typed r → lengthB (length mem) ≡ true → p * h ≤ length mem
+    → Right p h glyphs (figuresOf sheet p h glyphs) r mem q out drawn

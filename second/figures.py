@@ -1,0 +1,152 @@
+"""The figures: how FIGD and GCHRD begin, what one cycle does, which way they step.
+
+A part of the SECOND PROGRAM, written from the paper alone (see chip.py). The
+class `Figures` holds the functions of the controller that draw; `Chip` in
+chip.py is made upon it.
+"""
+
+from steps import step
+
+
+class Figure:
+    """A figure in progress: "Figures and reads work on copies of DC to DM."
+
+    `dots` is how many dots it has, `place` how many of them are done.
+    """
+
+    def __init__(self, chip, kind, dots):
+        self.kind = kind
+        self.dots = dots
+        self.place = 0
+        self.direction = chip.figs & 7
+        self.dc, self.d, self.d2 = chip.dc, chip.d, chip.d2
+        self.d1, self.dm = chip.d1, chip.dm
+        self.row_start = (chip.ead, chip.mask)     # used by characters
+        self.factor = (chip.zoom & 15) + 1         # used by characters
+
+
+class Figures:
+    """What the controller does to draw."""
+
+    def start_figd(self):
+        # "Other types, or GC under FIGD, or GCHRD without GC, draw nothing."
+        figure_type = self.figs >> 3
+        if figure_type == 0b00000:
+            # "Type 00000: DC + 1 dots along DIR."
+            self.start_figure("dots", self.dc + 1)
+        elif figure_type == 0b00001:
+            # "L: DC + 1 dots."
+            self.start_figure("line", self.dc + 1)
+        elif figure_type == 0b01000:
+            # "R: four sides ... of D, D2, D, D2 dots"
+            self.start_figure("rectangle", 2 * self.d + 2 * self.d2)
+
+    def start_gchrd(self):
+        # "GC by GCHRD: with factor g (ZOOM's low nibble + 1), (DC + 1)·g
+        # rows of D·g dots"
+        if self.figs >> 3 == 0b00010:
+            factor = (self.zoom & 15) + 1
+            self.start_figure("character", (self.dc + 1) * factor * self.d * factor)
+
+    def start_figure(self, kind, dots):
+        # "A figure of no dots ... changes nothing more and ends in the unit
+        # that takes its command."
+        if dots > 0:
+            self.figure = Figure(self, kind, dots)
+
+    def figure_cycle(self):
+        # "One step between consecutive dots, none after the last; it, or a
+        # return to a row's start, is made in the earlier dot's unit, and the
+        # figure ends in its last dot's unit."
+        figure = self.figure
+        if figure.kind == "character":
+            bit = self.character_bit(figure)
+        else:
+            bit = self.pattern_bit(figure)
+        # "... for all masked bits."
+        self.memory_cycle(0xFFFF if bit else 0x0000)
+        figure.place += 1
+        if figure.place == figure.dots:
+            self.figure = None
+        else:
+            self.figure_step(figure)
+
+    def figure_step(self, figure):
+        if figure.kind == "character":
+            self.character_step(figure)
+            return
+        if figure.kind == "line":
+            direction = line_direction(figure)
+        elif figure.kind == "rectangle":
+            direction = side_direction(figure)
+        else:
+            direction = figure.direction
+        self.ead, self.mask = step(self.ead, self.mask, direction, self.pitch)
+
+    def pattern_bit(self, figure):
+        # "In FIGD dot k uses bit k mod 16 of the pattern RA8 + 256·RA9"
+        pattern = self.pram[8] + 256 * self.pram[9]
+        return pattern >> (figure.place % 16) & 1
+
+    def character_bit(self, figure):
+        # "Row r, dot c uses bit (c div g) mod 8 of RA(15 - (r div g) mod 8)"
+        r, c = row_and_dot(figure, figure.place)
+        byte = self.pram[15 - (r // figure.factor) % 8]
+        return byte >> ((c // figure.factor) % 8) & 1
+
+    def character_step(self, figure):
+        # "each row runs along DIR from its start; the next start is one step
+        # along DIR + 2." The place is already the next dot's.
+        r, c = row_and_dot(figure, figure.place)
+        if c > 0:
+            self.ead, self.mask = step(self.ead, self.mask, figure.direction, self.pitch)
+            return
+        ead, mask = figure.row_start
+        next_row = (figure.direction + 2) % 8
+        self.ead, self.mask = step(ead, mask, next_row, self.pitch)
+        figure.row_start = (self.ead, self.mask)
+
+
+def row_and_dot(figure, place):
+    # "rows of D·g dots"
+    return divmod(place, figure.d * figure.factor)
+
+
+def line_direction(figure):
+    # "D is two's complement. Negative: axis move, D gains D1; else diagonal
+    # move, D gains D2; the 14-bit sum wraps."
+    if figure.d >= 0x2000:
+        figure.d = (figure.d + figure.d1) % 0x4000
+        return axis(figure.direction)
+    figure.d = (figure.d + figure.d2) % 0x4000
+    return diagonal(figure.direction)
+
+
+def axis(direction):
+    # "For even DIR the axis is DIR ...; for odd, the axis is DIR + 1 mod 8"
+    if direction % 2 == 0:
+        return direction
+    return (direction + 1) % 8
+
+
+def diagonal(direction):
+    # "For even DIR ... the diagonal DIR + 1; for odd, ... the diagonal DIR."
+    if direction % 2 == 0:
+        return direction + 1
+    return direction
+
+
+def side_direction(figure):
+    # "R: four sides along DIR, DIR + 2, + 4, + 6 (mod 8), of D, D2, D, D2
+    # dots, a step after each dot except the last." The dot just done is the
+    # one before the place.
+    k = figure.place - 1
+    if k < figure.d:
+        side = 0
+    elif k < figure.d + figure.d2:
+        side = 1
+    elif k < figure.d + figure.d2 + figure.d:
+        side = 2
+    else:
+        side = 3
+    return (figure.direction + 2 * side) % 8

@@ -1,0 +1,225 @@
+"""The second program's controller with counters in it, for coverage.py."""
+
+import os
+import sys
+
+HERE = os.path.dirname(os.path.abspath(__file__))
+sys.path.insert(0, os.path.join(HERE, os.pardir, "second"))
+
+import figures as figures_module     # noqa: E402
+from chip import Chip                # noqa: E402
+from commands import NAMES           # noqa: E402
+from reads import READ_MODE, WRITE_MODE  # noqa: E402
+from rows import (  # noqa: E402
+    DIRECTIONS, MOST_PARAMETERS, OPERATION_NAMES, TRANSFERS, class_of_command, reached)
+
+
+class CountingChip(Chip):
+
+    def command_port(self, byte):
+        held, mode = len(self.buffer), self.mode
+        if byte == 0:
+            self.count_reset(held, mode)
+        elif self.read is not None:
+            reached("RDAT %s ended by a command" % TRANSFERS[self.read.transfer])
+        answer = Chip.command_port(self, byte)
+        if byte != 0:
+            reached("command queued" if answer == 0 else "refusal 3: command")
+            if mode == READ_MODE:
+                reached("command in read mode")
+                if held == 16:
+                    reached("command in read mode with 16 held")
+        return answer
+
+    def count_reset(self, held, mode):
+        reached("command RESET")
+        if held == 16 and mode == WRITE_MODE:
+            reached("RESET with a full buffer")
+        if mode == READ_MODE:
+            reached("RESET in read mode")
+        if self.display:
+            reached("RESET with display on")
+        if self.figure is not None:
+            reached("RESET in a figure")
+            reached(self.figure.kind + " cut by RESET")
+        if self.read is not None:
+            reached("RDAT %s ended by RESET" % TRANSFERS[self.read.transfer])
+
+    def parameter_port(self, byte):
+        answer = Chip.parameter_port(self, byte)
+        if answer == 0:
+            reached("parameter queued")
+        else:
+            reached("refusal 4" if answer == 4 else "refusal 3: parameter")
+            if answer == 4 and len(self.buffer) == 16:
+                reached("refusal 4 with 16 held")
+        return answer
+
+    def read_byte(self):
+        answer = Chip.read_byte(self)
+        if answer[0] == 0:
+            reached("byte read")
+        else:
+            reached("refusal 5 in %s mode" % ("write" if self.mode == 0 else "read"))
+        return answer
+
+    def status(self):
+        value = Chip.status(self)
+        for bit in (7, 3, 2, 1, 0):
+            reached("status bit %d is %d" % (bit, value >> bit & 1))
+        return value
+
+    def post_pen(self, address):
+        was_set = self.pen_set
+        answer = Chip.post_pen(self, address)
+        reached("pen posted" if answer == 0 else "refusal 6")
+        if answer == 0 and was_set:
+            reached("pen replaced")
+        return answer
+
+    def run(self, budget):
+        done, reason = Chip.run(self, budget)
+        reached("run: " + ["", "budget spent", "nothing to do", "a read awaits room"][reason])
+        if budget == 0:
+            reached("run: budget 0")
+        elif reason == 1 and self.nothing_to_do():
+            reached("run: budget spent as the work ends")
+        if self.figure is not None:
+            reached("run: a figure cut")
+        if budget == 0xFFFFFFFF:
+            reached("run: the largest budget")
+        if reason == 3:
+            reached("RDAT %s awaits room at %d" % (TRANSFERS[self.read.transfer], len(self.buffer)))
+        return done, reason
+
+    def begin_command(self, byte):
+        if self.command is not None:
+            name = NAMES[self.command]
+            if name in MOST_PARAMETERS and self.taken < MOST_PARAMETERS[name]:
+                reached("cut short: %s after %d" % (name, self.taken))
+        if self.half_word is not None:
+            by = NAMES[byte] if NAMES[byte] in ("WDAT", "RESET", "unknown") else "another command"
+            reached("half word dropped by " + by)
+        Chip.begin_command(self, byte)
+
+    def take_command(self, byte):
+        reached(class_of_command(byte))
+        name = NAMES[byte]
+        if name in ("FIGD", "GCHRD"):
+            reached("%s of type %s" % (name, format(self.figs >> 3, "05b")))
+        if name in ("RDAT", "CURD", "LPRD"):
+            reached("%s with %s behind it" % (name, "entries" if self.buffer else "nothing"))
+        if name == "LPRD" and self.pen_set:
+            reached("LPRD clears bit 7")
+        Chip.take_command(self, byte)
+        if name == "RDAT" and self.read is None:
+            reached("RDAT %s of no items" % TRANSFERS[byte >> 3 & 3])
+
+    def take_parameter(self, byte):
+        name = "" if self.command is None else NAMES[self.command]
+        number = self.taken + 1
+        if name == "":
+            reached("parameter before any command")
+        elif name == "unknown":
+            reached("parameter of an unknown byte")
+        elif name in MOST_PARAMETERS:
+            reached("parameter %s %s" % (name, number if number <= MOST_PARAMETERS[name] else "surplus"))
+        elif name == "PRAM":
+            reached("parameter PRAM " + ("kept" if self.command % 16 + number <= 16 else "past 15"))
+        elif name == "WDAT":
+            self.count_wdat()
+        else:
+            reached("parameter of " + name)
+        Chip.take_parameter(self, byte)
+
+    def count_wdat(self):
+        transfer = self.command >> 3 & 3
+        if transfer == 0:
+            reached("parameter WDAT %s of a word" % ("first" if self.half_word is None else "second"))
+        else:
+            reached("parameter WDAT " + TRANSFERS[transfer])
+
+    def write_set(self, pattern):
+        reached("WDAT %s %s" % (TRANSFERS[self.command >> 3 & 3], OPERATION_NAMES[self.operation]))
+        reached("WDAT moves " + DIRECTIONS[self.figs & 7])
+        Chip.write_set(self, pattern)
+
+    def read_item(self):
+        transfer, held = self.read.transfer, len(self.buffer)
+        reached("RDAT %s along %s" % (TRANSFERS[transfer], DIRECTIONS[self.figs & 7]))
+        if self.ead >= len(self.memory):
+            reached("RDAT folded")
+        if transfer != 0 and held == 15:
+            reached("RDAT %s goes on at 15" % TRANSFERS[transfer])
+        Chip.read_item(self)
+        if self.read is None:
+            reached("RDAT %s completed" % TRANSFERS[transfer])
+
+    def memory_cycle(self, pattern):
+        ones = bin(self.mask).count("1")
+        reached("cycle with mask " + {0: "0000", 1: "one bit", 16: "FFFF"}.get(ones, "of other bits"))
+        reached("cycle by " + OPERATION_NAMES[self.operation])
+        reached("cycle folded" if self.ead >= len(self.memory) else "cycle not folded")
+        if self.figure is not None:
+            kind = self.figure.kind
+            reached("%s along %s" % (kind, DIRECTIONS[self.figure.direction]))
+            reached("%s by %s" % (kind, OPERATION_NAMES[self.operation]))
+            reached("%s, pattern bit %d" % (kind, pattern & 1))
+        Chip.memory_cycle(self, pattern)
+
+    def start_figure(self, kind, dots):
+        if dots == 0:
+            reached("figure of no dots: " + kind)
+        elif kind == "rectangle":
+            reached("rectangle: " + ("D = 0 only" if self.d == 0 else "D2 = 0 only" if self.d2 == 0 else "both sides"))
+        elif kind == "character":
+            reached("character: factor %d" % ((self.zoom & 15) + 1))
+            if self.dc + 1 > 8:
+                reached("character: more than 8 rows")
+            if self.d > 8:
+                reached("character: more than 8 dots")
+            if dots > 2 ** 32:
+                reached("character: more than 2^32 units")
+        Chip.start_figure(self, kind, dots)
+
+    def figure_cycle(self):
+        kind = self.figure.kind
+        Chip.figure_cycle(self)
+        if self.figure is None:
+            reached(kind + " ends in its last dot")
+
+    def figure_step(self, figure):
+        if figure.kind == "line":
+            self.count_line(figure)
+        if figure.kind == "character" and figure.place % (figure.d * figure.factor) == 0:
+            reached("character: returns to the row's start")
+        if self.pitch == 0:
+            reached("step with pitch 0")
+        Chip.figure_step(self, figure)
+
+    def count_line(self, figure):
+        def signed(number):
+            return number - 0x4000 if number >= 0x2000 else number
+        d = signed(figure.d)
+        reached("line: D negative" if d < 0 else "line: D zero or more")
+        if not -0x2000 <= d + signed(figure.d1 if d < 0 else figure.d2) < 0x2000:
+            reached("line: the sum wraps")
+
+
+def counting_step(ead, mask, direction, pitch):
+    # Stands in for the step of figures.py while counting.
+    name = DIRECTIONS[direction]
+    if "right" in name and mask & 0x8000 or "left" in name and mask & 1:
+        reached("step %s, carry" % name)
+    else:
+        reached("step %s, no carry" % name)
+    after, new_mask = plain_step(ead, mask, direction, pitch)
+    if after < ead and direction in (0, 1, 2):
+        reached("step wraps past 262,143")
+    if after > ead and direction in (4, 5, 6):
+        reached("step wraps below 0")
+    return after, new_mask
+
+
+plain_step = figures_module.step
+figures_module.step = counting_step

@@ -1,0 +1,156 @@
+"""The rows of the coverage table: what the gate's script must reach.
+
+The counts are kept here too; counting.py counts while the second program runs.
+"""
+
+import os
+import sys
+from collections import Counter
+
+HERE = os.path.dirname(os.path.abspath(__file__))
+sys.path.insert(0, os.path.join(HERE, os.pardir, "second"))
+
+from bench import OPERATIONS         # noqa: E402
+from commands import NAMES           # noqa: E402
+
+DIRECTIONS = ["down", "down-right", "right", "up-right", "up", "up-left", "left", "down-left"]
+OPERATION_NAMES = ["REPLACE", "COMPLEMENT", "RESET", "SET"]
+TRANSFERS = {0: "word", 2: "low byte", 3: "high byte"}
+KINDS = ["dots", "line", "rectangle", "character"]
+MOST_PARAMETERS = {"RESET": 8, "CCHAR": 3, "ZOOM": 1, "CURS": 3, "PITCH": 1, "MASK": 2, "FIGS": 11}
+SHEET_KINDS = ["dot", "line", "line of one dot", "diagonal line", "rectangle", "flat rectangle",
+               "standing rectangle", "rectangle of one dot", "glyph"]
+
+counts = Counter()
+
+
+def reached(row):
+    counts[row] += 1
+
+
+def class_of_command(byte):
+    # The row of a command byte.
+    name = NAMES[byte]
+    if name in ("PRAM", "WDAT", "RDAT", "VSYNC"):
+        return "command %s %02X" % (name, byte)
+    if name != "unknown":
+        return "command %s" % name
+    if 0x28 <= byte <= 0x2B:
+        return "unknown: WDAT of type 1"
+    if 0x20 <= byte <= 0x3F:
+        return "unknown: WDAT with bit 2"
+    if byte == 0xA8:
+        return "unknown: RDAT of type 1"
+    if 0xA0 <= byte <= 0xBF:
+        return "unknown: RDAT with low bits"
+    return "unknown: %X0 to %XF" % (byte >> 4, byte >> 4)
+
+
+def rows():
+    # Every row that the gate's script must reach, in the order printed.
+    table = []
+    for byte in range(256):
+        row = class_of_command(byte)
+        if row not in table:
+            table.append(row)
+    table += rows_of_parameters() + rows_of_figures() + rows_of_steps()
+    table += rows_of_reads() + rows_of_ports() + rows_of_sheets() + rows_of_language()
+    return table
+
+
+def rows_of_parameters():
+    table = []
+    for name, most in MOST_PARAMETERS.items():
+        table += ["parameter %s %d" % (name, number) for number in range(1, most + 1)]
+        table.append("parameter %s surplus" % name)
+        table += ["cut short: %s after %d" % (name, number) for number in range(0, most)]
+    table += ["parameter PRAM kept", "parameter PRAM past 15"]
+    table += ["parameter WDAT " + what for what in ("first of a word", "second of a word", "low byte", "high byte")]
+    table += ["parameter before any command", "parameter of an unknown byte"]
+    table += ["parameter of %s" % name for name in ("VSYNC", "START", "FIGD", "GCHRD")]
+    table += ["half word dropped by " + name for name in ("WDAT", "RESET", "unknown", "another command")]
+    table += ["WDAT %s %s" % (TRANSFERS[t], o) for t in TRANSFERS for o in OPERATION_NAMES]
+    table += ["WDAT moves " + direction for direction in DIRECTIONS]
+    return table
+
+
+def rows_of_figures():
+    table = ["%s of type %s" % (name, format(kind, "05b")) for name in ("FIGD", "GCHRD") for kind in range(32)]
+    table += ["%s along %s" % (kind, direction) for kind in KINDS for direction in DIRECTIONS]
+    table += ["%s by %s" % (kind, operation) for kind in KINDS for operation in OPERATION_NAMES]
+    table += ["%s, pattern bit %d" % (kind, bit) for kind in KINDS for bit in (0, 1)]
+    table += ["%s %s" % (kind, end) for kind in KINDS for end in ("ends in its last dot", "cut by RESET")]
+    table += ["figure of no dots: rectangle", "figure of no dots: character"]
+    table += ["line: D negative", "line: D zero or more", "line: the sum wraps"]
+    table += ["rectangle: D = 0 only", "rectangle: D2 = 0 only", "rectangle: both sides"]
+    table += ["character: factor %d" % factor for factor in range(1, 17)]
+    table += ["character: " + what for what in ("returns to the row's start", "more than 8 rows",
+                                                "more than 8 dots", "more than 2^32 units")]
+    return table
+
+
+def rows_of_steps():
+    table = []
+    for direction in DIRECTIONS:
+        table += ["step %s, no carry" % direction]
+        if direction not in ("up", "down"):
+            table += ["step %s, carry" % direction]
+    table += ["step wraps past 262,143", "step wraps below 0"]
+    table += ["cycle with mask " + what for what in ("0000", "one bit", "FFFF", "of other bits")]
+    table += ["cycle by " + operation for operation in OPERATION_NAMES]
+    table += ["cycle folded", "cycle not folded", "step with pitch 0"]
+    return table
+
+
+def rows_of_reads():
+    table = ["RDAT %s along %s" % (TRANSFERS[t], direction) for t in TRANSFERS for direction in DIRECTIONS]
+    table += ["RDAT %s %s" % (TRANSFERS[t], what) for t in TRANSFERS
+              for what in ("of no items", "completed", "ended by a command", "ended by RESET", "awaits room at 16")]
+    table += ["RDAT word awaits room at 15", "RDAT low byte goes on at 15", "RDAT high byte goes on at 15"]
+    table += ["RDAT folded"]
+    table += ["%s with %s behind it" % (name, what) for name in ("RDAT", "CURD", "LPRD")
+              for what in ("entries", "nothing")]
+    return table
+
+
+def rows_of_ports():
+    table = ["command queued", "parameter queued", "command in read mode", "command in read mode with 16 held"]
+    table += ["refusal 3: command", "refusal 3: parameter", "refusal 4", "refusal 4 with 16 held",
+              "refusal 5 in write mode", "refusal 5 in read mode", "refusal 6", "refusal 2", "byte read"]
+    table += ["RESET with a full buffer", "RESET in read mode", "RESET in a figure", "RESET with display on"]
+    table += ["pen posted", "pen replaced", "LPRD clears bit 7"]
+    table += ["status bit %d is %d" % (bit, value) for bit in (7, 3, 2, 1, 0) for value in (0, 1)]
+    table += ["run: budget spent", "run: nothing to do", "run: a read awaits room", "run: budget 0",
+              "run: budget spent as the work ends", "run: a figure cut", "run: the largest budget"]
+    table += ["memory of %d words" % 2 ** power for power in range(4, 19)]
+    return table
+
+
+def rows_of_sheets():
+    table = ["T gives %d" % number for number in [0] + list(range(11, 21))]
+    table += ["X gives %d" % number for number in [0] + list(range(11, 20))]
+    table += ["%d in a later block" % number for number in range(14, 20)]
+    table += ["%d in a later record" % number for number in range(16, 20)]
+    table += ["11 by P", "11 by H", "11 by P * H", "12 by eights", "12 by size", "13 empty", "13 no blocks", "13 over 16"]
+    table += ["15 by " + what for what in ("number", "count", "last", "unused records", "spare bytes")]
+    table += ["16 by " + what for what in ("kind", "operation", "a dot's bytes", "a glyph's bytes")]
+    table += ["19 by a " + what for what in ("dot", "line", "rectangle", "glyph")]
+    table += ["translated: " + kind for kind in SHEET_KINDS]
+    table += ["translated by " + operation for operation in OPERATION_NAMES]
+    table += ["line DIR %d" % direction for direction in range(8)]
+    table += ["glyph factor %d" % factor for factor in range(1, 17)]
+    table += ["sheet: " + what for what in (
+        "no figures", "1 block", "2 to 15 blocks", "16 blocks", "a block of 50", "800 figures", "exact room",
+        "P 1", "P 255", "H 1", "H 4096", "P * H = 262144", "N = 4095", "a dot in the last column",
+        "a dot in the last line", "glyph 255")]
+    table += ["X held to the geometry", "X of a picture that does not fit", "X in read mode",
+              "X with a figure in progress", "X with entries waiting", "X with a full buffer",
+              "X with a half-sent word", "X with a mask not one-hot"]
+    return table
+
+
+def rows_of_language():
+    table = ["line %s" % letter for letter in OPERATIONS]
+    table += ["? for %s" % letter for letter in OPERATIONS]
+    table += ["? for another line", "? for an empty line", "? for a line too long"]
+    return table
