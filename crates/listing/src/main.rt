@@ -1,4 +1,4 @@
-// Reads a drawing sheet, for a plane of 40 words by 400 lines with no glyphs, and writes its entries, one to a line, or why it is refused.
+// Reads a drawing sheet, for a plane of 40 words by 400 lines with no glyphs, and writes its entries, one to a line, or why it is refused (in words on standard error).
 use blocks::Answer;
 ghost use mathlib.Core.Path.{_≡_};
 ghost use Prim.Native.Nat.{_%_};
@@ -39,6 +39,7 @@ fn print_entries(entries: &[u16], n: usize) {
     }
 }
 
+// The three numbers on standard output, and what they mean on standard error.
 fn print_refusal(a: Answer) {
     io::write_all(1, b"refused ");
     io::print_decimal(1, a.number as u64);
@@ -47,6 +48,7 @@ fn print_refusal(a: Answer) {
     io::write_all(1, b" ");
     io::print_decimal(1, a.second as u64);
     io::write_all(1, b"\n");
+    sentences::say_refusal(2, a.number, a.first, a.second);
 }
 
 // One byte more than the largest sheet is read, so that a longer one is seen; the largest translation has 2 + 800·21 entries.
