@@ -1,52 +1,58 @@
 // Which line asks for what.
 use crate::controller;
 use crate::desk::Desk;
+use crate::desk::Left;
 use crate::output::unknown;
 use crate::reader::within;
 use crate::sheet;
+use registers::Registers;
 use script::Line;
 
-// A letter alone.
-fn bare(
-    d: Desk,
-    letter: u8,
-    mem: &mut [u16],
-    glyphs: &[u8],
-    sheet: &[u8],
-    entries: &mut [u16],
-    out: &mut [u8],
-) -> Desk {
+// A letter alone that leaves the registers.
+fn looked(r: Registers, d: Desk, letter: u8, mem: &[u16], out: &mut [u8]) -> Desk {
     match letter {
-        b'R' => controller::read(d, out),
-        b'S' => controller::status(d, out),
-        b'D' => controller::list(d, out),
+        b'S' => controller::status(r, d, out),
+        b'D' => controller::list(r, d, out),
         b'H' => controller::digest(d, mem, out),
         b'G' => sheet::no_glyphs(d, out),
         b'Z' => sheet::no_sheet(d, out),
-        b'X' => sheet::drawn(d, mem, glyphs, sheet, entries, out),
         _ => unknown(d, out),
     }
 }
 
-// A letter and a number.
-fn one(
+// A letter alone.
+fn bare(
+    r: Registers,
     d: Desk,
     letter: u8,
-    n: u64,
     mem: &mut [u16],
     glyphs: &[u8],
     sheet: &[u8],
     entries: &mut [u16],
     out: &mut [u8],
-) -> Desk {
+) -> Left {
     match letter {
-        b'M' => controller::new_memory(d, n, mem, out),
-        b'C' => controller::command(d, n, out),
-        b'P' => controller::parameter(d, n, out),
-        b'L' => controller::light_pen(d, n, out),
-        b'U' => controller::run(d, n, mem, out),
-        b'T' => sheet::translation(d, n, glyphs, sheet, entries, out),
-        _ => unknown(d, out),
+        b'R' => controller::read(r, d, out),
+        b'X' => sheet::drawn(r, d, mem, glyphs, sheet, entries, out),
+        _ => Left {
+            regs: r,
+            desk: looked(r, d, letter, mem, out),
+        },
+    }
+}
+
+// A letter and a number, to the controller.
+fn one(r: Registers, d: Desk, letter: u8, n: u64, mem: &mut [u16], out: &mut [u8]) -> Left {
+    match letter {
+        b'M' => controller::new_memory(r, d, n, mem, out),
+        b'C' => controller::command(r, d, n, out),
+        b'P' => controller::parameter(r, d, n, out),
+        b'L' => controller::light_pen(r, d, n, out),
+        b'U' => controller::run(r, d, n, mem, out),
+        _ => Left {
+            regs: r,
+            desk: unknown(d, out),
+        },
     }
 }
 
@@ -79,9 +85,10 @@ fn bytes(
     }
 }
 
-// What a line asks for is done.
-fn asked(
+// A line that leaves the registers.
+fn quiet(
     d: Desk,
+    l: Line,
     line: &[u8],
     mem: &mut [u16],
     glyphs: &mut [u8],
@@ -89,18 +96,44 @@ fn asked(
     entries: &mut [u16],
     out: &mut [u8],
 ) -> Desk {
-    let l = script::read_line(line);
     match l {
-        Line::Bad => unknown(d, out),
-        Line::Bare(letter) => bare(d, letter, mem, glyphs, sheet, entries, out),
-        Line::One(letter, n) => one(d, letter, n, mem, glyphs, sheet, entries, out),
+        Line::One(_, n) => sheet::translation(d, n, glyphs, sheet, entries, out),
         Line::Two(letter, a, b) => two(d, letter, a, b, mem, out),
         Line::Bytes(letter) => bytes(d, letter, line, glyphs, sheet, out),
+        Line::Bad => unknown(d, out),
+        Line::Bare(_) => unknown(d, out),
+    }
+}
+
+// What a line asks for is done.
+fn asked(
+    r: Registers,
+    d: Desk,
+    line: &[u8],
+    mem: &mut [u16],
+    glyphs: &mut [u8],
+    sheet: &mut [u8],
+    entries: &mut [u16],
+    out: &mut [u8],
+) -> Left {
+    let l = script::read_line(line);
+    if let Line::Bare(letter) = l {
+        return bare(r, d, letter, mem, glyphs, sheet, entries, out);
+    }
+    if let Line::One(letter, n) = l {
+        if letter != b'T' {
+            return one(r, d, letter, n, mem, out);
+        }
+    }
+    Left {
+        regs: r,
+        desk: quiet(d, l, line, mem, glyphs, sheet, entries, out),
     }
 }
 
 // A line of that length is answered.
 pub fn answer(
+    r: Registers,
     d: Desk,
     line: &[u8],
     length: usize,
@@ -109,7 +142,7 @@ pub fn answer(
     sheet: &mut [u8],
     entries: &mut [u16],
     out: &mut [u8],
-) -> Desk {
+) -> Left {
     let n = within(length, line);
-    asked(d, &line[..n], mem, glyphs, sheet, entries, out)
+    asked(r, d, &line[..n], mem, glyphs, sheet, entries, out)
 }

@@ -1,7 +1,7 @@
 // The lines that drive the controller and look at it.
 use crate::desk::Desk;
+use crate::desk::Left;
 use crate::desk::with_held;
-use crate::desk::with_regs;
 use crate::output;
 use crate::output::line;
 use crate::output::unknown;
@@ -23,15 +23,21 @@ fn clear(mem: &mut [u16], n: usize) {
 }
 
 // `M n`: fresh registers and a memory of n zero words.
-pub fn new_memory(d: Desk, n: u64, mem: &mut [u16], out: &mut [u8]) -> Desk {
+pub fn new_memory(r: Registers, d: Desk, n: u64, mem: &mut [u16], out: &mut [u8]) -> Left {
     let words = n as usize;
     if !units::length_right(words) {
-        return line(d, out, b'M', &[2]);
+        return Left {
+            regs: r,
+            desk: line(d, out, b'M', &[2]),
+        };
     }
     clear(mem, words);
-    let mut e = with_regs(d, registers::fresh());
+    let mut e = d;
     e.words = words;
-    line(e, out, b'M', &[0])
+    Left {
+        regs: registers::fresh(),
+        desk: line(e, out, b'M', &[0]),
+    }
 }
 
 fn store(mem: &mut [u16], at: usize, v: u16) {
@@ -54,55 +60,59 @@ pub fn set_word(d: Desk, a: u64, v: u64, mem: &mut [u16], out: &mut [u8]) -> Des
 }
 
 // The registers that a port answers, and the number of its refusal.
-fn answered(d: Desk, letter: u8, a: Answer, out: &mut [u8]) -> Desk {
-    let r = a.regs;
-    let e = with_regs(d, r);
-    line(e, out, letter, &[a.number as u64])
+fn answered(a: Answer, d: Desk, letter: u8, out: &mut [u8]) -> Left {
+    let q = a.regs;
+    Left {
+        regs: q,
+        desk: line(d, out, letter, &[a.number as u64]),
+    }
 }
 
 // `C b`
-pub fn command(d: Desk, b: u64, out: &mut [u8]) -> Desk {
+pub fn command(r: Registers, d: Desk, b: u64, out: &mut [u8]) -> Left {
     if 255 < b {
-        return unknown(d, out);
+        return Left {
+            regs: r,
+            desk: unknown(d, out),
+        };
     }
-    let r = d.regs;
-    answered(d, b'C', ports::write_command(r, b as u8), out)
+    answered(ports::write_command(r, b as u8), d, b'C', out)
 }
 
 // `P b`
-pub fn parameter(d: Desk, b: u64, out: &mut [u8]) -> Desk {
+pub fn parameter(r: Registers, d: Desk, b: u64, out: &mut [u8]) -> Left {
     if 255 < b {
-        return unknown(d, out);
+        return Left {
+            regs: r,
+            desk: unknown(d, out),
+        };
     }
-    let r = d.regs;
-    answered(d, b'P', ports::write_parameter(r, b as u8), out)
+    answered(ports::write_parameter(r, b as u8), d, b'P', out)
 }
 
 // `L a`
-pub fn light_pen(d: Desk, a: u64, out: &mut [u8]) -> Desk {
+pub fn light_pen(r: Registers, d: Desk, a: u64, out: &mut [u8]) -> Left {
     if 4294967295 < a {
-        return unknown(d, out);
+        return Left {
+            regs: r,
+            desk: unknown(d, out),
+        };
     }
-    let r = d.regs;
-    answered(d, b'L', ports::post_pen(r, a as u32), out)
+    answered(ports::post_pen(r, a as u32), d, b'L', out)
 }
 
 // `R`
-pub fn read(d: Desk, out: &mut [u8]) -> Desk {
-    let r = d.regs;
+pub fn read(r: Registers, d: Desk, out: &mut [u8]) -> Left {
     let a = ports::read_byte(r);
     let q = a.regs;
-    line(
-        with_regs(d, q),
-        out,
-        b'R',
-        &[a.number as u64, a.value as u64],
-    )
+    Left {
+        regs: q,
+        desk: line(d, out, b'R', &[a.number as u64, a.value as u64]),
+    }
 }
 
 // `S`
-pub fn status(d: Desk, out: &mut [u8]) -> Desk {
-    let r = d.regs;
+pub fn status(r: Registers, d: Desk, out: &mut [u8]) -> Desk {
     let a = ports::read_status(r);
     line(d, out, b'S', &[a.value as u64])
 }
@@ -114,24 +124,28 @@ fn run_within(r: Registers, mem: &mut [u16], words: usize, budget: u32) -> Ran {
 }
 
 // `U n`
-pub fn run(d: Desk, budget: u64, mem: &mut [u16], out: &mut [u8]) -> Desk {
+pub fn run(r: Registers, d: Desk, budget: u64, mem: &mut [u16], out: &mut [u8]) -> Left {
     if 4294967295 < budget {
-        return unknown(d, out);
+        return Left {
+            regs: r,
+            desk: unknown(d, out),
+        };
     }
-    let r = d.regs;
     let a = run_within(r, mem, d.words, budget as u32);
     let q = a.regs;
-    line(
-        with_regs(d, q),
-        out,
-        b'U',
-        &[a.number as u64, a.count as u64, a.why as u64],
-    )
+    Left {
+        regs: q,
+        desk: line(
+            d,
+            out,
+            b'U',
+            &[a.number as u64, a.count as u64, a.why as u64],
+        ),
+    }
 }
 
 // `D`
-pub fn list(d: Desk, out: &mut [u8]) -> Desk {
-    let r = d.regs;
+pub fn list(r: Registers, d: Desk, out: &mut [u8]) -> Desk {
     let a = output::character(out, d.held, b'D');
     let b = crate::listed::registers(out, a, r);
     with_held(d, output::character(out, b, b'\n'))

@@ -2,7 +2,6 @@
 use registers::Registers;
 
 pub struct Desk {
-    pub regs: Registers,
     // The words of the memory.
     pub words: usize,
     // The picture's size: words in a line, and lines.
@@ -15,10 +14,15 @@ pub struct Desk {
     pub held: usize,
 }
 
+// What a line of the script leaves.
+pub struct Left {
+    pub regs: Registers,
+    pub desk: Desk,
+}
+
 // Before the first line.
 pub fn start() -> Desk {
     Desk {
-        regs: registers::fresh(),
         words: 16,
         across: 40,
         down: 400,
@@ -26,12 +30,6 @@ pub fn start() -> Desk {
         sheet: 0,
         held: 0,
     }
-}
-
-pub fn with_regs(d: Desk, r: Registers) -> Desk {
-    let mut n = d;
-    n.regs = r;
-    n
 }
 
 pub fn with_held(d: Desk, held: usize) -> Desk {

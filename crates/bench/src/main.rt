@@ -1,5 +1,5 @@
 // The bench: a script on standard input drives the controller and the translator, one line of answer for each of its lines.
-use desk::Desk;
+use desk::Left;
 use reader::Reader;
 
 mod answer;
@@ -12,7 +12,7 @@ mod sheet;
 
 // What is carried from turn to turn.
 pub struct Bench {
-    pub desk: Desk,
+    pub left: Left,
     pub reader: Reader,
 }
 
@@ -27,17 +27,18 @@ fn turn(
     entries: &mut [u16],
     out: &mut [u8],
 ) -> Bench {
+    let l = b.left;
+    let q = l.regs;
     let r = reader::take_line(input, b.reader, line);
     if r.whole {
-        let d = answer::answer(b.desk, line, r.length, mem, glyphs, sheet, entries, out);
         return Bench {
-            desk: d,
+            left: answer::answer(q, l.desk, line, r.length, mem, glyphs, sheet, entries, out),
             reader: reader::past(r),
         };
     }
-    let d = output::flush(b.desk, out);
+    let d = output::flush(l.desk, out);
     Bench {
-        desk: d,
+        left: Left { regs: q, desk: d },
         reader: reader::refill(r, input),
     }
 }
@@ -53,20 +54,23 @@ fn turns(
     out: &mut [u8],
 ) {
     let mut b = Bench {
-        desk: desk::start(),
+        left: Left {
+            regs: registers::fresh(),
+            desk: desk::start(),
+        },
         reader: reader::start(),
     };
     let mut left = u64::MAX;
     while 0 < left {
         b = turn(b, input, line, mem, glyphs, sheet, entries, out);
-        let r = b.reader;
-        if r.ended {
+        if b.reader.ended {
             left = 0;
         } else {
             left -= 1;
         }
     }
-    output::flush(b.desk, out);
+    let l = b.left;
+    output::flush(l.desk, out);
 }
 
 // A line of 20,001 characters is held, so that a longer one than is lawful is seen.

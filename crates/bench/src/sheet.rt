@@ -1,7 +1,7 @@
 // The lines about drawing sheets: the picture's size, the glyphs, the sheet, its translation and its drawing.
 use crate::desk::Desk;
+use crate::desk::Left;
 use crate::desk::with_held;
-use crate::desk::with_regs;
 use crate::output;
 use crate::output::line;
 use crate::output::unknown;
@@ -179,43 +179,50 @@ fn send_all(r: Registers, entries: &[u16], mem: &mut [u16]) -> Sent {
 }
 
 // The first n entries are sent, over the words that the memory has.
-fn send_within(d: Desk, entries: &[u16], n: u32, mem: &mut [u16]) -> Sent {
+fn send_within(r: Registers, entries: &[u16], n: u32, mem: &mut [u16], most: usize) -> Sent {
     let count = words_within(n as usize, entries);
-    let words = words_within(d.words, mem);
-    let r = d.regs;
+    let words = words_within(most, mem);
     send_all(r, &entries[..count], &mut mem[..words])
 }
 
 // The answer to a drawing that was accepted.
 fn drawing_told(
+    r: Registers,
     d: Desk,
     a: blocks::Answer,
     entries: &[u16],
     mem: &mut [u16],
     out: &mut [u8],
-) -> Desk {
-    let s = send_within(d, entries, a.first, mem);
+) -> Left {
+    let s = send_within(r, entries, a.first, mem, d.words);
     let q = s.regs;
-    line(with_regs(d, q), out, b'X', &[0, a.first as u64, 0, s.units])
+    Left {
+        regs: q,
+        desk: line(d, out, b'X', &[0, a.first as u64, 0, s.units]),
+    }
 }
 
 // `X`
 pub fn drawn(
+    r: Registers,
     d: Desk,
     mem: &mut [u16],
     glyphs: &[u8],
     sheet: &[u8],
     entries: &mut [u16],
     out: &mut [u8],
-) -> Desk {
+) -> Left {
     let a = translated(d, glyphs, sheet, entries, 16802);
     if a.number != 0 {
-        return line(
-            d,
-            out,
-            b'X',
-            &[a.number as u64, a.first as u64, a.second as u64, 0],
-        );
+        return Left {
+            regs: r,
+            desk: line(
+                d,
+                out,
+                b'X',
+                &[a.number as u64, a.first as u64, a.second as u64, 0],
+            ),
+        };
     }
-    drawing_told(d, a, entries, mem, out)
+    drawing_told(r, d, a, entries, mem, out)
 }

@@ -10,6 +10,7 @@ use Rattle.bench.proofs.desk.start.Reads as desk-start-reads
 use Rattle.bench.proofs.output.flush.Reads as flush-reads
 use Rattle.bench.proofs.reader.start.Reads as reader-start-reads
 use Rattle.bench.proofs.turn.Reads as turn-reads
+use Rattle.registers.proofs.fresh.Reads as fresh-reads
 
 abbrev Inv-loop : tie.InvT-loop
 Inv-loop input₀ line₀ mem₀ glyphs₀ sheet₀ entries₀ out₀ b₀ left₀ input line mem glyphs sheet entries out b left =
@@ -18,6 +19,9 @@ Inv-loop input₀ line₀ mem₀ glyphs₀ sheet₀ entries₀ out₀ b₀ left�
 abbrev μ-loop : tie.MeasureT-loop
 μ-loop input₀ line₀ mem₀ glyphs₀ sheet₀ entries₀ out₀ b₀ left₀ input line mem glyphs sheet entries out b left =
     left
+
+fresh-requires : tie.Need-fresh-requires Inv-loop μ-loop
+fresh-requires c κs = search needs
 
 start-requires : tie.Need-start-requires Inv-loop μ-loop
 start-requires c κs = search needs
@@ -79,6 +83,7 @@ turns-spec =
     (tie.spec
     Inv-loop
     μ-loop
+    fresh-requires
     start-requires
     start-requires-2
     loop-holds
