@@ -99,7 +99,7 @@ fn read_glyphs(table: &mut [u8]) -> Number {
     }
     let got = io::read_full(fd, table);
     Number {
-        ok: true,
+        ok: 0 < got,
         value: (got % 4096) as u32,
     }
 }
@@ -193,7 +193,7 @@ fn picture_of(mem: &mut [u16], image: &mut [u8]) {
     let h = number_at(3, 400);
     let words = number_at(4, 16384);
     if !(p.ok & h.ok & words.ok) {
-        complain(b"P, H and WORDS are decimal numbers");
+        complain(b"P, H and WORDS are decimal numbers of at most nine digits");
         return;
     }
     let m = words.value as usize;
@@ -204,7 +204,7 @@ fn picture_of(mem: &mut [u16], image: &mut [u8]) {
     let mut glyphs = [0u8; 2049];
     let table = read_glyphs(&mut glyphs);
     if !table.ok {
-        complain(b"the glyph file cannot be read");
+        complain(b"the glyph file is missing or empty, or cannot be read");
         return;
     }
     let mut sheet = [0u8; 8193];
@@ -218,6 +218,10 @@ fn picture_of(mem: &mut [u16], image: &mut [u8]) {
 }
 
 fn main() {
+    if 5 < os::arg_count() {
+        complain(b"there are at most four arguments, GLYPHS P H WORDS");
+        return;
+    }
     let mut mem = [0u16; 262144];
     let mut image = [0u8; 524288];
     picture_of(&mut mem, &mut image);
