@@ -19,7 +19,7 @@ abbrev pub Apart : Bool → ℕ → ℕ → ℕ → Type 0
 Apart true a b k = a + k ≡ b
 Apart false a b k = b + k ≡ a
 
--- a line of N = n and m, seen from its first end: is across the longer way, and does it go right and down?
+-- a line of N = n and m, seen from its first end: whether across is the longer way, and whether it goes right and down
 -- Where a distance is 0, or both are equal, two octants fit.
 pub record Octant (x0 y0 x1 y1 n m : ℕ) : Type 0 where
   pub across : Bool
