@@ -1,4 +1,5 @@
--- Every pixel of the image is the dot of the picture: pixel x of line y is bit 7 - x mod 8 of byte x div 8 of that line, and a line has 2·p bytes.
+-- Every pixel of the image is the dot of the picture: pixel x of line y is bit 7 - x mod 8 of byte x div 8 of that line, and a line has 2·p
+-- bytes.
 use mathlib.Core.Path.{_≡_, ap, _∙_}
 use mathlib.Core.List.{List}
 use Prim.Native.Nat.{ℕ, zero, suc, _+_, _-_, _*_, _/_, _%_, _<_}
@@ -11,7 +12,8 @@ use Rattle.dots.specs.Dot.{dot}
 use Rattle.bitmap.specs.Image.{byteAt, bytesFrom, imageOf}
 
 -- byte k of the bytes from j on
-bytes-at : (p : ℕ) (mem : List ℕ) (n j k : ℕ) → k < n → getD (bytesFrom p mem n j) k 0 ≡ byteAt p ((j + k) / (2 * p)) ((j + k) % (2 * p)) mem
+bytes-at : (p : ℕ) (mem : List ℕ) (n j k : ℕ) → k < n
+    → getD (bytesFrom p mem n j) k 0 ≡ byteAt p ((j + k) / (2 * p)) ((j + k) % (2 * p)) mem
 unfolding bytesFrom
 bytes-at p mem zero j k h = absurd (omega arith)
 bytes-at p mem (suc n) j zero h = let e : j + 0 ≡ j = omega arith in rw e
@@ -29,14 +31,104 @@ module _ (p y b : ℕ) (mem : List ℕ) where
 
   pub byte-bit : (i : ℕ) → i < 8 → bit (7 - i) (byteAt p y b mem) ≡ dot p (8 * b + i) y mem
   unfolding bit byteAt
-  byte-bit zero h = let e : 8 * b + 0 ≡ 8 * b = omega arith in rw e (omega (arith, below (8 * b), below (8 * b + 1), below (8 * b + 2), below (8 * b + 3), below (8 * b + 4), below (8 * b + 5), below (8 * b + 6), below (8 * b + 7)))
-  byte-bit (suc zero) h = omega (arith, below (8 * b), below (8 * b + 1), below (8 * b + 2), below (8 * b + 3), below (8 * b + 4), below (8 * b + 5), below (8 * b + 6), below (8 * b + 7))
-  byte-bit (suc (suc zero)) h = omega (arith, below (8 * b), below (8 * b + 1), below (8 * b + 2), below (8 * b + 3), below (8 * b + 4), below (8 * b + 5), below (8 * b + 6), below (8 * b + 7))
-  byte-bit (suc (suc (suc zero))) h = omega (arith, below (8 * b), below (8 * b + 1), below (8 * b + 2), below (8 * b + 3), below (8 * b + 4), below (8 * b + 5), below (8 * b + 6), below (8 * b + 7))
-  byte-bit (suc (suc (suc (suc zero)))) h = omega (arith, below (8 * b), below (8 * b + 1), below (8 * b + 2), below (8 * b + 3), below (8 * b + 4), below (8 * b + 5), below (8 * b + 6), below (8 * b + 7))
-  byte-bit (suc (suc (suc (suc (suc zero))))) h = omega (arith, below (8 * b), below (8 * b + 1), below (8 * b + 2), below (8 * b + 3), below (8 * b + 4), below (8 * b + 5), below (8 * b + 6), below (8 * b + 7))
-  byte-bit (suc (suc (suc (suc (suc (suc zero)))))) h = omega (arith, below (8 * b), below (8 * b + 1), below (8 * b + 2), below (8 * b + 3), below (8 * b + 4), below (8 * b + 5), below (8 * b + 6), below (8 * b + 7))
-  byte-bit (suc (suc (suc (suc (suc (suc (suc zero))))))) h = omega (arith, below (8 * b), below (8 * b + 1), below (8 * b + 2), below (8 * b + 3), below (8 * b + 4), below (8 * b + 5), below (8 * b + 6), below (8 * b + 7))
+  byte-bit zero h =
+      let e : 8 * b + 0 ≡ 8 * b =
+      omega arith in
+      rw e (omega (
+        arith,
+        below (8 * b),
+        below (8 * b + 1),
+        below (8 * b + 2),
+        below (8 * b + 3),
+        below (8 * b + 4),
+        below (8 * b + 5),
+        below (8 * b + 6),
+        below (8 * b + 7),
+      ))
+  byte-bit (suc zero) h =
+      omega (
+        arith,
+        below (8 * b),
+        below (8 * b + 1),
+        below (8 * b + 2),
+        below (8 * b + 3),
+        below (8 * b + 4),
+        below (8 * b + 5),
+        below (8 * b + 6),
+        below (8 * b + 7),
+      )
+  byte-bit (suc (suc zero)) h =
+      omega (
+        arith,
+        below (8 * b),
+        below (8 * b + 1),
+        below (8 * b + 2),
+        below (8 * b + 3),
+        below (8 * b + 4),
+        below (8 * b + 5),
+        below (8 * b + 6),
+        below (8 * b + 7),
+      )
+  byte-bit (suc (suc (suc zero))) h =
+      omega (
+        arith,
+        below (8 * b),
+        below (8 * b + 1),
+        below (8 * b + 2),
+        below (8 * b + 3),
+        below (8 * b + 4),
+        below (8 * b + 5),
+        below (8 * b + 6),
+        below (8 * b + 7),
+      )
+  byte-bit (suc (suc (suc (suc zero)))) h =
+      omega (
+        arith,
+        below (8 * b),
+        below (8 * b + 1),
+        below (8 * b + 2),
+        below (8 * b + 3),
+        below (8 * b + 4),
+        below (8 * b + 5),
+        below (8 * b + 6),
+        below (8 * b + 7),
+      )
+  byte-bit (suc (suc (suc (suc (suc zero))))) h =
+      omega (
+        arith,
+        below (8 * b),
+        below (8 * b + 1),
+        below (8 * b + 2),
+        below (8 * b + 3),
+        below (8 * b + 4),
+        below (8 * b + 5),
+        below (8 * b + 6),
+        below (8 * b + 7),
+      )
+  byte-bit (suc (suc (suc (suc (suc (suc zero)))))) h =
+      omega (
+        arith,
+        below (8 * b),
+        below (8 * b + 1),
+        below (8 * b + 2),
+        below (8 * b + 3),
+        below (8 * b + 4),
+        below (8 * b + 5),
+        below (8 * b + 6),
+        below (8 * b + 7),
+      )
+  byte-bit (suc (suc (suc (suc (suc (suc (suc zero))))))) h =
+      omega (
+        arith,
+        below (8 * b),
+        below (8 * b + 1),
+        below (8 * b + 2),
+        below (8 * b + 3),
+        below (8 * b + 4),
+        below (8 * b + 5),
+        below (8 * b + 6),
+        below (8 * b + 7),
+      )
   byte-bit (suc (suc (suc (suc (suc (suc (suc (suc i)))))))) h = absurd (omega arith)
 
 -- pixel (x, y) of an image that reaches so far

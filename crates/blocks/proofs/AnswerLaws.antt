@@ -1,4 +1,5 @@
--- Refusals in their order: what `orElse` answers, and the turns of a loop that stops at the first refusal. The first refusal is none just where no place
+-- Refusals in their order: what `orElse` answers, and the turns of a loop that stops at the first refusal. The first refusal is none just
+-- where no place
 -- has one. True by cases on the number, and by induction on the places left.
 use mathlib.Core.Path.{_≡_, refl, sym, subst, _∙_}
 use mathlib.Core.Bool.{Bool, true, false, cond, false≢true}
@@ -45,7 +46,9 @@ module _ (a : ℕ → Answer) where
   pub first-none : (f k : ℕ) → ((i : ℕ) → k ≤ i → i < k + f → a i .number ≡ 0) → firstFrom a f k ≡ answer 0 0 0
   unfolding firstFrom
   first-none zero k h = refl
-  first-none (suc f) k h = or-next (a k) (firstFrom a f (k + 1)) (h k (omega arith) (omega arith)) ∙ first-none f (k + 1) (λ i l u. h i (omega arith) (omega arith))
+  first-none (suc f) k h =
+      or-next (a k) (firstFrom a f (k + 1)) (h k (omega arith) (omega arith))
+      ∙ first-none f (k + 1) (λ i l u. h i (omega arith) (omega arith))
 
   pub first-all : (f k : ℕ) → firstFrom a f k .number ≡ 0 → (i : ℕ) → k ≤ i → i < k + f → a i .number ≡ 0
   unfolding firstFrom

@@ -1,4 +1,5 @@
--- The turns of the loops over a block's words and bytes and over the blocks: what is left to do, with what is done, is the whole. True because each
+-- The turns of the loops over a block's words and bytes and over the blocks: what is left to do, with what is done, is the whole. True
+-- because each
 -- definition takes one step where the loop takes one turn.
 use mathlib.Core.Path.{_≡_, refl, sym, ap, _∙_}
 use mathlib.Core.Bool.{Bool, true, false, cond, _&&_}
@@ -9,7 +10,8 @@ use mir.Val.{boolByte}
 use borrow.Author.Tests.{eq-eqb, ne-eqb, lt-leb}
 use Rattle.records.specs.Raw.{byteAt, wordAt}
 use Rattle.blocks.specs.Answer.{answer, firstFrom}
-use Rattle.blocks.specs.Block.{sumWords, checkOf, countOf, numberB, countB, lastB, zerosB, spareB, unusedB, headB, blockRefusal, blockAnswer, blocksChecked}
+use Rattle.blocks.specs.Block.{sumWords, checkOf, countOf, numberB, countB, lastB, zerosB, spareB, unusedB, headB, blockRefusal}
+use Rattle.blocks.specs.Block.{blockAnswer, blocksChecked}
 use Rattle.blocks.proofs.AnswerLaws.{first-start, first-stop, first-go-on, first-end}
 
 -- ---- the check

@@ -3,7 +3,8 @@ use Prim.Native.Nat.{ℕ}
 use mathlib.Core.Bool.{Bool, cond, _&&_}
 use lib.Dec.{eqb, leb}
 use Rattle.registers.specs.declared.Command.{Command}
-use Rattle.registers.specs.declared.Command.the-variants.{Reset, Vsync, Cchar, Start, Zoom, Curs, Pram, Pitch, Mask, Figs, Figd, Gchrd, Curd, Lprd, Wdat, Rdat, Unknown}
+use Rattle.registers.specs.declared.Command.the-variants.{Reset, Vsync, Cchar, Start, Zoom, Curs, Pram, Pitch, Mask, Figs, Figd, Gchrd}
+use Rattle.registers.specs.declared.Command.the-variants.{Curd, Lprd, Wdat, Rdat, Unknown}
 use Rattle.registers.specs.declared.Transfer.the-variants.{Word, Low, High}
 
 abbrev pub within : ℕ → ℕ → ℕ → Bool

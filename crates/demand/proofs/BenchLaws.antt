@@ -50,7 +50,8 @@ lawful = rw long refl
 pub bench-shown : Shown 40 400 [] (figuresOf sheet 40 400 []) (take 13 (listing ++ 7 ∷ 7 ∷ [])) (state freshSet zeros)
 bench-shown =
     whole sheet 40 400 [] (replicate 15 7) (listing ++ 7 ∷ 7 ∷ []) (answer 0 13 0)
-    (sym (first-of _ _ (outcome (answer 0 0 0) []) bench)) refl (λ j. omega arith) freshSet zeros fresh-ready fresh-typed lawful (omega (arith, long))
+    (sym (first-of _ _ (outcome (answer 0 0 0) []) bench)) refl (λ j. omega arith) freshSet zeros fresh-ready fresh-typed lawful
+    (omega (arith, long))
 
 -- the bench sheet's figure
 one : List Record
@@ -60,7 +61,8 @@ one-shown : Shown 40 400 [] one (translation [] 40 one) (state freshSet zeros)
 unfolding one
 one-shown =
     shown 40 400 (record { wide = omega arith; tall = omega arith; area = omega arith }) [] (λ j. omega arith) one
-    (record { column = omega arith; row = omega arith }, tt) freshSet (waiting freshSet fresh-ready fresh-typed) zeros lawful (omega (arith, long))
+    (record { column = omega arith; row = omega arith }, tt) freshSet (waiting freshSet fresh-ready fresh-typed) zeros lawful
+    (omega (arith, long))
 
 abbrev drawn : List ℕ
 drawn = sentAll (state freshSet zeros) (translation [] 40 one) .mem
@@ -71,7 +73,8 @@ dot-set = one-shown .dots 17 2 (record { column = omega arith; row = omega arith
 
 dot-left : dot 40 16 2 drawn ≡ 0
 unfolding one figuresMade changed dot bit zeros
-dot-left = one-shown .dots 16 2 (record { column = omega arith; row = omega arith }) ∙ rw (getD-replicate {A = ℕ} 16384 81 0 0 (omega arith))
+dot-left = one-shown .dots 16 2 (record { column = omega arith; row = omega arith })
+    ∙ rw (getD-replicate {A = ℕ} 16384 81 0 0 (omega arith))
 
 units-told : unitsOf (state freshSet zeros) (translation [] 40 one) ≡ 14
 unfolding one translation translated entriesOf dotEntries figuresDots

@@ -47,17 +47,21 @@ pub leads-count : {s s′ : State} {l : List ℕ} {m n : ℕ} → Leads s l m s�
 leads-count {s} {s′} {l} v e = subst (λ (k : ℕ). Leads s l k s′) e v
 
 -- the same by another test of the shape, or another count
-pub draws-as : {p h : ℕ} {op : Operation} {on on′ : Shape} {ink : Picture} {s : State} {l : List ℕ} {m n : ℕ} → ((x y : ℕ) → on x y ≡ on′ x y) → m ≡ n
+pub draws-as : {p h : ℕ} {op : Operation} {on on′ : Shape} {ink : Picture} {s : State} {l : List ℕ} {m n : ℕ}
+    → ((x y : ℕ) → on x y ≡ on′ x y) → m ≡ n
     → Draws p h op on ink s l m → Draws p h op on′ ink s l n
-draws-as same e d = record { after = d .after; leads = leads-count (d .leads) e; waits = d .waits; pitch = d .pitch; drawn = drawn-as same (d .drawn) }
+draws-as same e d =
+    record { after = d .after; leads = leads-count (d .leads) e; waits = d .waits; pitch = d .pitch; drawn = drawn-as same (d .drawn) }
 
-module _ (p h : ℕ) (sized : Sized p h) (s : State) (held : Held p h s) (op : Operation) (a : Point) (inside : InPlane p h (a .x) (a .y)) where
+module _ (p h : ℕ) (sized : Sized p h) (s : State) (held : Held p h s) (op : Operation) (a : Point)
+    (inside : InPlane p h (a .x) (a .y)) where
   -- the registers before FIGS
   abbrev pub base : Registers
   base = aimed (s .regs) op (cursorAt (address p (a .x) (a .y)))
 
   -- the entries of FIGS set f; n + 1 dots
-  pub figd-law : (figs : List ℕ) (f : Drawing) (i n : ℕ) (on : Shape) → (Waiting base → Acts base figs (drawingSet base f i)) → suc n ≡ dotsOf f → n < 65536
+  pub figd-law : (figs : List ℕ) (f : Drawing) (i n : ℕ) (on : Shape) → (Waiting base → Acts base figs (drawingSet base f i))
+      → suc n ≡ dotsOf f → n < 65536
       → ((t : ℕ → ℕ) → ((j k : ℕ) → bit (k % 16) (t j) ≡ 1)
       → Drawn p h op on solid (s .mem) (cycles op t (walk (stepAt f) p (cursorAt (address p (a .x) (a .y)))) (suc n) (s .mem)))
       → Draws p h op on solid s (headEntries op p a ++ figs ++ 0x16C ∷ []) (suc n)
@@ -69,7 +73,8 @@ module _ (p h : ℕ) (sized : Sized p h) (s : State) (held : Held p h s) (op : O
             (figd-draws (tail .waits) n all (s .mem) (held .lawful) (omega arith)))) (omega arith);
         waits = figd-waits (tail .waits) n all (s .mem);
         pitch = held .pitch;
-        drawn = subst (λ (k : ℕ). Drawn p h op on solid (s .mem) (cycles op ones (walk (stepAt f) k (cursorAt (address p (a .x) (a .y)))) (suc n) (s .mem))) (sym (held .pitch))
+        drawn = subst (λ (k : ℕ). Drawn p h op on solid (s .mem)
+            (cycles op ones (walk (stepAt f) k (cursorAt (address p (a .x) (a .y)))) (suc n) (s .mem))) (sym (held .pitch))
             (geometry ones (λ j k. pattern-ones (s .regs .ram) (held .waits .lawful .ram) j k));
       }
     where

@@ -113,7 +113,8 @@ module _ (p h : ℕ) (sized : Sized p h) (s : State) (held : Held p h s) (op : O
   is-glyph : Drawn p h op (squareOn (a .x) (a .y) g) (glyphInk t n (a .x) (a .y) g) (s .mem) (made (8 * g) g p (8 * g * (8 * g)))
   unfolding characterPattern
   is-glyph =
-      glyph-drawn (a .x) (a .y) g pos t n (λ j. getD ram j 0) (λ j k. ram-at (s .regs .ram) (rowsOf t n) (held .waits .lawful .ram) refl j k ∙ row-at t n j k)
+      glyph-drawn (a .x) (a .y) g pos t n (λ j. getD ram j 0)
+      (λ j k. ram-at (s .regs .ram) (rowsOf t n) (held .waits .lawful .ram) refl j k ∙ row-at t n j k)
       op p h sized (s .mem) (held .room) rx ry _ first refl (λ i k l. spread _ k (bit-lt _ _))
 
   factor-is : factorOf (g - 1) ≡ g
@@ -148,7 +149,8 @@ module _ (p h : ℕ) (sized : Sized p h) (s : State) (held : Held p h s) (op : O
   glyph-law = record {
     after = finished (gchrd q) (s .mem) some last;
     leads =
-        leads-count (leads-then (acts .leads (s .mem) (held .lawful)) (gchrd-draws (acts .waits) some last all (s .mem) (held .lawful) (omega (arith, few-dots g top))))
+        leads-count (leads-then (acts .leads (s .mem) (held .lawful))
+        (gchrd-draws (acts .waits) some last all (s .mem) (held .lawful) (omega (arith, few-dots g top))))
         (omega (arith, some-dots g pos));
     waits = gchrd-waits (acts .waits) some last all (s .mem);
     pitch = held .pitch;

@@ -45,7 +45,8 @@ operation-back Complement = refl
 operation-back Reset = refl
 operation-back Set = refl
 
-pub acts-wdat : {r : Registers} → Waiting r → (op : Operation) → Acts r ((0x120 + opNumber op) ∷ []) (putProgress (putOp (drained r) op) (progress (Wdat Word) 0))
+pub acts-wdat : {r : Registers} → Waiting r → (op : Operation)
+    → Acts r ((0x120 + opNumber op) ∷ []) (putProgress (putOp (drained r) op) (progress (Wdat Word) 0))
 acts-wdat {r} v op =
     acts-as (wdat-command v (opNumber op) (number-lt op))
     (ap (λ (o : Operation). putProgress (putOp (drained r) o) (progress (Wdat Word) 0)) (operation-back op))
@@ -60,7 +61,8 @@ cursor-is p a =
     λ i. record { ead = u i; mask = 2 ^ (w i) }
 
 module _ (p h : ℕ) (area : p * h ≤ 262144) (a : Point) (inside : InPlane p h (a .x) (a .y)) {r : Registers} (v : Waiting r) where
-  pub acts-cursor : Acts r (cursorEntries (eadOf p a) (a .x)) (putProgress (putCursor (drained r) (cursorAt (address p (a .x) (a .y)))) (progress Curs 3))
+  pub acts-cursor : Acts r (cursorEntries (eadOf p a) (a .x))
+      (putProgress (putCursor (drained r) (cursorAt (address p (a .x) (a .y)))) (progress Curs 3))
   acts-cursor =
       let w = address-word p h (a .x) (a .y) inside in
       let e = ap (λ (c : Cursor). c .ead) (cursor-is p a) in

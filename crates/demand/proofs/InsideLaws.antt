@@ -76,7 +76,12 @@ module _ (p h k : ℕ) where
         (λ f. cases Ok (fitsB r m)
         (λ g. let u = and-both (leb 1 (r .factor)) (leb (r .factor) 16) f in
         let v = and-both (leb (r .x + 8 * r .factor) (16 * p)) (leb (r .y + 8 * r .factor) h) g in
-        record { some = leb-true _ _ (u .0); few = omega (arith, leb-true (r .factor) 16 (u .1)); right = leb-true _ _ (v .0); low = leb-true _ _ (v .1) }) (λ g. tt))
+        record {
+          some = leb-true _ _ (u .0);
+          few = omega (arith, leb-true (r .factor) 16 (u .1));
+          right = leb-true _ _ (v .0);
+          low = leb-true _ _ (v .1);
+        }) (λ g. tt))
         (λ f. tt)) (λ e. tt)
 
     ok-decoded : Ok (decodedOf r m)

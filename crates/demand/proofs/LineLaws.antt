@@ -52,19 +52,25 @@ module _ (p h : ℕ) (sized : Sized p h) (s : State) (held : Held p h s) (op : O
   small = subst (λ (d : ℕ). d < 8) (v .dir) (dir-lt (v .octant .across) (v .octant .right) (v .octant .down))
 
   abbrev figs : List ℕ
-  figs = 0x14C ∷ (8 + k .dir) ∷ both (k .major) ++ both (minus14 (2 * k .minor) (k .major)) ++ both (minus14 (2 * k .minor) (2 * k .major)) ++ both (2 * k .minor)
+  figs = 0x14C ∷ (8 + k .dir) ∷ both (k .major) ++ both (minus14 (2 * k .minor) (k .major)) ++ both
+      (minus14 (2 * k .minor) (2 * k .major)) ++ both (2 * k .minor)
 
-  sets : Waiting (base p h sized s held op a ia) → Acts (base p h sized s held op a ia) figs (drawingSet (base p h sized s held op a ia) (lineDrawing (k .dir) (k .major) (k .minor)) 9)
+  sets : Waiting (base p h sized s held op a ia) → Acts (base p h sized s held op a ia) figs
+      (drawingSet (base p h sized s held op a ia) (lineDrawing (k .dir) (k .major) (k .minor)) 9)
   sets w =
       let first = acts-figs w (8 + k .dir) 1 (k .dir) (omega (arith, small)) (omega (arith, small)) (omega (arith, small)) in
       let dc = sends-dc (first .waits) (k .major) (omega (arith, n-lt)) refl in
       let d = sends-d (dc .waits) (minus14 (2 * k .minor) (k .major)) (omega arith) refl in
       let d2 = sends-d2 (d .waits) (minus14 (2 * k .minor) (2 * k .major)) (omega arith) refl in
-      acts-then first (acts-then dc (acts-then d (acts-then d2 (sends-d1 (d2 .waits) (2 * k .minor) (omega (arith, n-lt, v .octant .le)) refl))))
+      acts-then first
+      (acts-then dc (acts-then d (acts-then d2 (sends-d1 (d2 .waits) (2 * k .minor) (omega (arith, n-lt, v .octant .le)) refl))))
 
   pub line-law : Draws p h op (lineOn (a .x) (a .y) (b .x) (b .y)) solid s (lineEntries op p a b) (suc (k .major))
   unfolding lineEntries dotsOf
   line-law =
-      figd-law p h sized s held op a ia figs (lineDrawing (k .dir) (k .major) (k .minor)) 9 (k .major) (lineOn (a .x) (a .y) (b .x) (b .y)) sets (omega arith) (omega (arith, n-lt))
-      (λ t ones. line-drawn (v .octant) op p h sized (s .mem) (held .room) ia ib (k .dir) (v .dir) t _ (cursorAt (address p (a .x) (a .y))) refl (λ i j l. ones i j)
-      (λ i l. line-steps (lineDrawing (k .dir) (k .major) (k .minor)) (k .major) (k .minor) refl (omega (arith, n-lt)) refl (omega (arith, n-lt)) small i))
+      figd-law p h sized s held op a ia figs (lineDrawing (k .dir) (k .major) (k .minor)) 9 (k .major)
+      (lineOn (a .x) (a .y) (b .x) (b .y)) sets (omega arith) (omega (arith, n-lt))
+      (λ t ones. line-drawn (v .octant) op p h sized (s .mem) (held .room) ia ib (k .dir)
+      (v .dir) t _ (cursorAt (address p (a .x) (a .y))) refl (λ i j l. ones i j)
+      (λ i l. line-steps (lineDrawing (k .dir) (k .major) (k .minor)) (k .major) (k .minor) refl (omega (arith, n-lt)) refl
+      (omega (arith, n-lt)) small i))

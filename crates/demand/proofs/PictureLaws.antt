@@ -18,13 +18,15 @@ abbrev at : ℕ → ℕ → Point
 at x y = record { x = x; y = y }
 
 -- the corner, the dot right of it and the middle of a rectangle (0, 0) to (3, 2)
-border-once : figureMade [] Complement (Rectangle (at 0 0) (at 3 2)) blank 0 0 ∷ figureMade [] Complement (Rectangle (at 0 0) (at 3 2)) blank 1 0
+border-once : figureMade [] Complement (Rectangle (at 0 0) (at 3 2)) blank 0 0 ∷ figureMade [] Complement
+    (Rectangle (at 0 0) (at 3 2)) blank 1 0
     ∷ figureMade [] Complement (Rectangle (at 0 0) (at 3 2)) blank 1 1 ∷ [] ≡ 1 ∷ 1 ∷ 0 ∷ []
 unfolding changed borderOn oneBit
 border-once = refl
 
 -- 01's slip: "under COMPLEMENT, (0,0)-(3,0) flips dots 1 and 2 twice"
-flat-once : figureMade [] Complement (Rectangle (at 0 0) (at 3 0)) blank 1 0 ∷ figureMade [] Complement (Rectangle (at 3 0) (at 0 0)) blank 2 0 ∷ [] ≡ 1 ∷ 1 ∷ []
+flat-once : figureMade [] Complement (Rectangle (at 0 0) (at 3 0)) blank 1 0 ∷ figureMade [] Complement
+    (Rectangle (at 3 0) (at 0 0)) blank 2 0 ∷ [] ≡ 1 ∷ 1 ∷ []
 unfolding changed borderOn oneBit
 flat-once = refl
 
@@ -37,6 +39,7 @@ unfolding changed squareOn glyphInk oneBit bit
 glyph-upright = refl
 
 -- set, then cleared
-later-decides : figuresMade [] (record { op = Set; figure = Dot (at 5 6) } ∷ record { op = Reset; figure = Dot (at 5 6) } ∷ []) blank 5 6 ≡ 0
+later-decides : figuresMade [] (record { op = Set; figure = Dot (at 5 6) } ∷ record { op = Reset; figure = Dot (at 5 6) } ∷ []) blank 5 6
+    ≡ 0
 unfolding figuresMade changed oneBit
 later-decides = refl

@@ -34,7 +34,8 @@ side-lt : (d e i : ℕ) → sideDirs d e i < 8
 unfolding sideDirs
 side-lt d e i =
     cases (λ (k : ℕ). k < 8) (ltb i d) (λ q. omega arith)
-    (λ q. cases (λ (k : ℕ). k < 8) (ltb i (d + e)) (λ q. omega arith) (λ q. cases (λ (k : ℕ). k < 8) (ltb i (d + e + d)) (λ q. omega arith) (λ q. omega arith)))
+    (λ q. cases (λ (k : ℕ). k < 8) (ltb i (d + e)) (λ q. omega arith)
+    (λ q. cases (λ (k : ℕ). k < 8) (ltb i (d + e + d)) (λ q. omega arith) (λ q. omega arith)))
 
 side-steps : (w g i : ℕ) → stepAt (rectangleDrawing w g) i ≡ sideDirs g w i
 unfolding directionAt sideOf sideDirs
@@ -57,7 +58,8 @@ module _ (p h : ℕ) (sized : Sized p h) (s : State) (held : Held p h s) (op : O
   abbrev figs : List ℕ
   figs = 0x14C ∷ 0x40 ∷ both 3 ++ both g ++ both w ++ 0xFF ∷ 0x3F ∷ both g
 
-  sets : Waiting (base p h sized s held op a ia) → Acts (base p h sized s held op a ia) figs (drawingSet (base p h sized s held op a ia) (rectangleDrawing w g) 11)
+  sets : Waiting (base p h sized s held op a ia) → Acts (base p h sized s held op a ia) figs
+      (drawingSet (base p h sized s held op a ia) (rectangleDrawing w g) 11)
   sets v =
       let first = acts-figs v 0x40 8 0 (omega arith) refl refl in
       let dc = sends-dc (first .waits) 3 (omega arith) refl in
@@ -70,7 +72,9 @@ module _ (p h : ℕ) (sized : Sized p h) (s : State) (held : Held p h s) (op : O
   unfolding rectangleEntries dotsOf
   rectangle-law =
       draws-as (λ x y. ap₂ (λ (u v : ℕ). borderOn (a .x) (a .y) u v x y) (omega arith) (omega arith)) (omega arith)
-      (figd-law p h sized s held op a ia figs (rectangleDrawing w g) 11 (g + w + g + w - 1) (borderOn (a .x) (a .y) (a .x + w) (a .y + g)) sets (omega arith) (omega (arith, w-lt, g-lt))
+      (figd-law p h sized s held op a ia figs (rectangleDrawing w g) 11 (g + w + g + w - 1)
+      (borderOn (a .x) (a .y) (a .x + w) (a .y + g)) sets (omega arith) (omega (arith, w-lt, g-lt))
       (λ t ones. rectangle-drawn op p h sized (s .mem) (held .room) (a .x) (a .y) g w (g + w + g + w - 1) (omega arith) (omega arith)
-      (record { column = omega (arith, ib .column); row = omega (arith, ib .row) }) (omega arith) t _ (cursorAt (address p (a .x) (a .y))) refl (λ i j l. ones i j)
+      (record { column = omega (arith, ib .column); row = omega (arith, ib .row) })
+      (omega arith) t _ (cursorAt (address p (a .x) (a .y))) refl (λ i j l. ones i j)
       (λ i l. side-steps w g i)))

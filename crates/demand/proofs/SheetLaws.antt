@@ -44,7 +44,12 @@ makes : {p h : ℕ} {op : Operation} {on : Shape} {ink : Picture} {s : State} {l
 makes held d = record {
   after = d .after;
   leads = d .leads;
-  held = record { waits = d .waits; pitch = d .pitch; room = rw (d .drawn .long) (held .room); lawful = rw (d .drawn .long) (held .lawful) };
+  held = record {
+    waits = d .waits;
+    pitch = d .pitch;
+    room = rw (d .drawn .long) (held .room);
+    lawful = rw (d .drawn .long) (held .lawful);
+  };
   long = d .drawn .long;
   dots = d .drawn .dots;
   words = d .drawn .words;
@@ -79,12 +84,15 @@ module _ (p h : ℕ) (sized : Sized p h) (t : List ℕ) (bytes : (i : ℕ) → g
     rectangle a b ia ib true e =
         draws-as (λ u v. sym (flat-border (a .x) (a .y) (b .x) (b .y) u v e)) (flat-dots a b)
         (line-law p h sized s held op (least a b) (greatest a b)
-        (record { column = omega (arith, ia .column); row = omega (arith, ia .row) }) (record { column = omega (arith, ia .column, ib .column); row = omega (arith, ia .row, ib .row) }))
+        (record { column = omega (arith, ia .column); row = omega (arith, ia .row) })
+        (record { column = omega (arith, ia .column, ib .column); row = omega (arith, ia .row, ib .row) }))
     rectangle a b ia ib false e =
         let z = or-neither (eqb (a .x) (b .x)) (eqb (a .y) (b .y)) e in
-        draws-as (λ u v. sym (border-ordered (a .x) (a .y) (b .x) (b .y) u v)) (ap₂ (λ (x y : ℕ). 2 * (x + y)) (ordered-distance (a .x) (b .x)) (ordered-distance (a .y) (b .y)))
+        draws-as (λ u v. sym (border-ordered (a .x) (a .y) (b .x) (b .y) u v))
+        (ap₂ (λ (x y : ℕ). 2 * (x + y)) (ordered-distance (a .x) (b .x)) (ordered-distance (a .y) (b .y)))
         (rectangle-law p h sized s held op (least a b) (greatest a b)
-        (record { column = omega (arith, ia .column); row = omega (arith, ia .row) }) (record { column = omega (arith, ia .column, ib .column); row = omega (arith, ia .row, ib .row) })
+        (record { column = omega (arith, ia .column); row = omega (arith, ia .row) })
+        (record { column = omega (arith, ia .column, ib .column); row = omega (arith, ia .row, ib .row) })
         (omega (arith, eqb-false (a .x) (b .x) (z .0))) (omega (arith, eqb-false (a .y) (b .y) (z .1))))
 
     figure-law : (f : Figure) → Inside p h f → Makes p h (figureMade t op f) s (figureEntries t p op (plain f)) (figureDots f)
@@ -105,9 +113,11 @@ module _ (p h : ℕ) (sized : Sized p h) (t : List ℕ) (bytes : (i : ℕ) → g
   unfolding figuresMade
   figures-under [] a b x y e = e
   figures-under (r ∷ l) a b x y e =
-      figures-under l (figureMade t (r .op) (r .figure) a) (figureMade t (r .op) (r .figure) b) x y (figure-under (r .op) (r .figure) a b x y e)
+      figures-under l (figureMade t (r .op) (r .figure) a) (figureMade t (r .op) (r .figure) b) x y
+      (figure-under (r .op) (r .figure) a b x y e)
 
-  pub sheet-law : (l : List Record) → AllInside p h l → (s : State) → Held p h s → Makes p h (figuresMade t l) s (translated t p l) (figuresDots l)
+  pub sheet-law : (l : List Record) → AllInside p h l → (s : State) → Held p h s
+      → Makes p h (figuresMade t l) s (translated t p l) (figuresDots l)
   unfolding figuresMade figuresDots translated entriesOf
   sheet-law [] i s held = record { after = s; leads = leads-nothing s; held = held; long = refl; dots = λ x y v. refl; words = λ j k. refl }
   sheet-law (r ∷ l) i s held =
@@ -119,6 +129,7 @@ module _ (p h : ℕ) (sized : Sized p h) (t : List ℕ) (bytes : (i : ℕ) → g
         held = rest .held;
         long = rest .long ∙ one .long;
         dots = λ x y v. rest .dots x y v
-            ∙ figures-under l (λ u w. dot p u w (one .after .mem)) (figureMade t (r .op) (r .figure) (λ u w. dot p u w (s .mem))) x y (one .dots x y v);
+            ∙ figures-under l (λ u w. dot p u w (one .after .mem)) (figureMade t (r .op) (r .figure) (λ u w. dot p u w (s .mem))) x y
+            (one .dots x y v);
         words = λ j k. rest .words j k ∙ one .words j k;
       }

@@ -82,8 +82,10 @@ same-axis dir h = eqb→eq _ _ (below (λ j. eqb (axisOf j) (octants.axisOf j)) 
 same-diagonal : (dir : ℕ) → dir < 8 → diagonalOf dir ≡ octants.diagonalOf dir
 same-diagonal dir h = eqb→eq _ _ (below (λ j. eqb (diagonalOf j) (octants.diagonalOf j)) 8 tt dir h)
 
-module _ (f : Drawing) (n m : ℕ) (line : f .kind ≡ 1) (d : f .d ≡ (2 * m + 16384 - n) % 16384) (d1 : f .d1 ≡ 2 * m) (d2 : f .d2 ≡ (2 * m + 16384 - 2 * n) % 16384) where
-  on : (t : Bool) (r : Ruled) → cond t ((r .d + f .d1) % 16384) ((r .d + f .d2) % 16384) ≡ ruledOn t (2 * m) ((2 * m + 16384 - 2 * n) % 16384) r .d
+module _ (f : Drawing) (n m : ℕ) (line : f .kind ≡ 1) (d : f .d ≡ (2 * m + 16384 - n) % 16384) (d1 : f .d1 ≡ 2 * m)
+    (d2 : f .d2 ≡ (2 * m + 16384 - 2 * n) % 16384) where
+  on : (t : Bool) (r : Ruled) → cond t ((r .d + f .d1) % 16384) ((r .d + f .d2) % 16384)
+      ≡ ruledOn t (2 * m) ((2 * m + 16384 - 2 * n) % 16384) r .d
   on true r = rw d1
   on false r = rw d2
 
@@ -96,9 +98,11 @@ module _ (f : Drawing) (n m : ℕ) (line : f .kind ≡ 1) (d : f .d ≡ (2 * m +
   running zero = d
   running (suc i) = ap (runningD f) (running i) ∙ gains (ruled n m i)
 
-  pub line-steps : f .dir < 8 → (i : ℕ) → stepAt f i ≡ cond (negative (ruled n m i .d)) (octants.axisOf (f .dir)) (octants.diagonalOf (f .dir))
+  pub line-steps : f .dir < 8 → (i : ℕ) → stepAt f i
+      ≡ cond (negative (ruled n m i .d)) (octants.axisOf (f .dir)) (octants.diagonalOf (f .dir))
   unfolding directionAt lineDirection
   line-steps h i =
       ap (directionAt f i) (running i)
-      ∙ ap (λ (t : Bool). cond t (lineDirection (f .dir) (ruled n m i .d)) (cond (eqb (f .kind) 8) ((f .dir + sideOf (f .d) (f .d2) i) % 8) (f .dir))) (eq-eqb (f .kind) 1 line)
+      ∙ ap (λ (t : Bool). cond t (lineDirection (f .dir) (ruled n m i .d))
+      (cond (eqb (f .kind) 8) ((f .dir + sideOf (f .d) (f .d2) i) % 8) (f .dir))) (eq-eqb (f .kind) 1 line)
       ∙ ap₂ (cond (negative (ruled n m i .d))) (same-axis (f .dir) h) (same-diagonal (f .dir) h)

@@ -54,7 +54,8 @@ whole sheet p h table out written a e z bytes r mem ready typed lawful room =
     let k = translated-means sheet p h table out e z in
     let figures = figuresOf sheet p h table in
     let is : take (a .first) written ≡ translation table p figures =
-    ap (take (a .first)) (k .out) ∙ taken-out out (translation table p figures) (a .first) (translation-length table p figures ∙ sym (k .first)) (k .fits) in
+    ap (take (a .first)) (k .out) ∙ taken-out out (translation table p figures) (a .first)
+    (translation-length table p figures ∙ sym (k .first)) (k .fits) in
     subst (λ (l : List ℕ). Shown p h table figures l (state r mem)) (sym is)
     (shown p h (record { wide = k .frame .wide; tall = k .frame .tall; area = k .frame .area }) table bytes figures
     (sheet-inside p h (length table) sheet (length sheet / 512)) r (waiting r ready typed) mem lawful room)

@@ -9,7 +9,8 @@ use Rattle.records.specs.declared.Figure.the-variants.{Dot, Line, Rectangle, Gl
 use Rattle.records.specs.declared.Record.{Record}
 use Rattle.geometry.specs.Plane.{Picture, changed, solid, distance, dotOn, lineOn, borderOn, squareOn, glyphInk}
 
--- "A figure changes each of its dots once, as the logic unit does with its operation and pattern bit 1"; a glyph, "the pattern bit being the glyph's"
+-- "A figure changes each of its dots once, as the logic unit does with its operation and pattern bit 1"; a glyph, "the pattern bit being
+-- the glyph's"
 abbrev pub figureMade : List ℕ → Operation → Figure → Picture → Picture
 figureMade table op (Dot a) pic = changed op (dotOn (a .x) (a .y)) solid pic
 figureMade table op (Line a b) pic = changed op (lineOn (a .x) (a .y) (b .x) (b .y)) solid pic
@@ -26,7 +27,8 @@ abbrev pub figureDots : Figure → ℕ
 figureDots (Dot a) = 1
 figureDots (Line a b) = max (distance (a .x) (b .x)) (distance (a .y) (b .y)) + 1
 figureDots (Rectangle a b) =
-    cond (eqb (a .x) (b .x) || eqb (a .y) (b .y)) (max (distance (a .x) (b .x)) (distance (a .y) (b .y)) + 1) (2 * (distance (a .x) (b .x) + distance (a .y) (b .y)))
+    cond (eqb (a .x) (b .x) || eqb (a .y) (b .y)) (max (distance (a .x) (b .x)) (distance (a .y) (b .y)) + 1)
+    (2 * (distance (a .x) (b .x) + distance (a .y) (b .y)))
 figureDots (Glyph a n g) = 8 * g * (8 * g)
 
 unfoldable pub figuresDots : List Record → ℕ

@@ -30,7 +30,8 @@ module _ (sheet : List ℕ) (p h : ℕ) (glyphs : List ℕ) (r : Registers) (ent
     unfolding sheetDrawn
     way-mislong l e = rw (e, s, l)
 
-    module _ (l : lengthB (length mem) ≡ true) {a : Answer} {out : List ℕ} (t : translated a out ≡ translateDef sheet p h glyphs entries) where
+    module _ (l : lengthB (length mem) ≡ true) {a : Answer} {out : List ℕ}
+        (t : translated a out ≡ translateDef sheet p h glyphs entries) where
       past : all ≡ drawnBy a out r entries mem
       unfolding sheetDrawn
       past = rw (s, l) (sym (ap (λ (x : Translated). drawnBy (x .answer) (x .out) r entries mem) t))

@@ -56,7 +56,8 @@ drawn-right sheet p h glyphs r entries mem q out′ drawn e z bytes ready typed 
     let all = e ∙ granted sheet p h glyphs r entries mem (ready .sound) lawful z in
     let first : q .first ≡ t .answer .first = ap (λ (x : Outcome). x .drawn .first) all in
     let n : length (take (t .answer .first) (t .out)) ≡ t .answer .first =
-    ap length is ∙ translation-length glyphs p (figuresOf sheet p h glyphs) ∙ sym (translated-means sheet p h glyphs entries refl z .first) in
+    ap length is ∙ translation-length glyphs p (figuresOf sheet p h glyphs)
+    ∙ sym (translated-means sheet p h glyphs entries refl z .first) in
     record {
       number = ap (λ (x : Outcome). x .drawn .number) all;
       entries = ap (λ (x : Outcome). take (x .drawn .first) (x .entries)) all ∙ is;

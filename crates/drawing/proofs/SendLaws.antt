@@ -25,7 +25,8 @@ module _ (r : Registers) (e : ℕ) where
   pub by-command : {a : Answer} → 256 ≤ e → e < 512 → a ≡ commandWritten r (e % 256) → a .regs ≡ written r e .regs
   by-command h k q = let f : e % 256 ≡ e - 256 = omega arith in rw (q, f, le-ltb e 256 h)
 
-  pub by-run : (m : List ℕ) {p : Registers} {o : Outcome} → p ≡ written r e .regs → o ≡ runDone 4294967295 (state p m) → o ≡ sent (state r m) e .run
+  pub by-run : (m : List ℕ) {p : Registers} {o : Outcome} → p ≡ written r e .regs → o ≡ runDone 4294967295 (state p m)
+      → o ≡ sent (state r m) e .run
   unfolding sent
   by-run m q k = rw q at k
 
@@ -37,7 +38,8 @@ module _ (entries : List ℕ) (n : ℕ) where
   pub all-length : n ≤ length entries → length all ≡ n
   all-length h = length-take-le n entries h
 
-  module _ (k : ℕ) (s : State) (fits : n ≤ length entries) (more : k < n) {q : Ran} {m : List ℕ} (ran : outcome q m ≡ sent s (getD entries k 0) .run) where
+  module _ (k : ℕ) (s : State) (fits : n ≤ length entries) (more : k < n) {q : Ran} {m : List ℕ}
+      (ran : outcome q m ≡ sent s (getD entries k 0) .run) where
     first : drop k all ≡ getD entries k 0 ∷ drop (k + 1) all
     first =
         let e : suc k ≡ k + 1 = omega arith in

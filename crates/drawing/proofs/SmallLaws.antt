@@ -14,7 +14,9 @@ use Rattle.records.specs.declared.Figure.{Figure}
 use Rattle.records.specs.declared.Figure.the-variants.{Dot, Line, Rectangle, Glyph}
 use Rattle.blocks.specs.declared.Answer.{Answer}
 use Rattle.entries.specs.declared.Slope.{Slope}
-use Rattle.entries.specs.Entries.{opNumber, eadOf, cursorEntries, headEntries, both, dirFits, dirOf, slopeOf, lineBy, dotEntries, lineEntries, rectangleEntries, glyphEntries, distance, least, greatest, flatB, plain, foot, rowsOf, figureEntries, entriesOf}
+use Rattle.entries.specs.Entries.{opNumber, eadOf, cursorEntries, headEntries, both, dirFits, dirOf, slopeOf, lineBy, dotEntries}
+use Rattle.entries.specs.Entries.{lineEntries, rectangleEntries, glyphEntries, distance, least, greatest, flatB, plain, foot, rowsOf}
+use Rattle.entries.specs.Entries.{figureEntries, entriesOf}
 use Rattle.entries.proofs.PutLaws.{placed-is, placed-length}
 use Rattle.sheets.specs.Slots.{translated, translation}
 use Rattle.sheets.specs.Sheet.{figuresOf, outcome, translateDef}
@@ -52,8 +54,11 @@ both-small : (n : ℕ) → AllSmall (both n)
 both-small n = (omega arith, (omega arith, tt))
 
 head-small : (op : Operation) (p : ℕ) (a : Point) (l : List ℕ) → AllSmall l → AllSmall (headEntries op p a ++ l)
-head-small op p a l u =
-    (op-small op, small-append (cursorEntries (eadOf p a) (a .x)) (0x178 ∷ 0xFF ∷ 0xFF ∷ l) (cursor-small (eadOf p a) (a .x)) (omega arith, (omega arith, (omega arith, u))))
+head-small op p a l u = (
+  op-small op,
+  small-append (cursorEntries (eadOf p a) (a .x)) (0x178 ∷ 0xFF ∷ 0xFF ∷ l) (cursor-small (eadOf p a) (a .x))
+      (omega arith, (omega arith, (omega arith, u))),
+)
 
 pick : (t : Bool) {x y : ℕ} → x < 8 → y < 8 → cond t x y < 8
 pick true u v = u
@@ -73,7 +78,10 @@ line-small s h = (
   omega arith,
   (
     omega arith,
-    (omega arith, (omega arith, (omega arith, (omega arith, (omega arith, (omega arith, (omega arith, (omega arith, (omega arith, tt))))))))),
+    (
+      omega arith,
+      (omega arith, (omega arith, (omega arith, (omega arith, (omega arith, (omega arith, (omega arith, (omega arith, tt)))))))),
+    ),
   ),
 )
 
@@ -90,7 +98,10 @@ rectangle-small w h = (
       omega arith,
       (
         omega arith,
-        (omega arith, (omega arith, (omega arith, (omega arith, (omega arith, (omega arith, (omega arith, (omega arith, (omega arith, tt))))))))),
+        (
+          omega arith,
+          (omega arith, (omega arith, (omega arith, (omega arith, (omega arith, (omega arith, (omega arith, (omega arith, tt)))))))),
+        ),
       ),
     ),
   ),
@@ -149,8 +160,13 @@ module _ (t : List ℕ) (bytes : Bytes t) (p : ℕ) (op : Operation) where
       let h = distance (a .y) (b .y) in
       head-small op p a (rectangleTail w h) (rectangle-small w h)
   figure-small (Glyph a n g) u =
-      let e = eadOf p (foot a g) in
-      (op-small op, (omega arith, (omega arith, small-append (cursorEntries e (a .x)) (glyphTail t n) (cursor-small e (a .x)) (glyph-small t bytes n))))
+      let e = eadOf p (foot a g) in (
+        op-small op,
+        (
+          omega arith,
+          (omega arith, small-append (cursorEntries e (a .x)) (glyphTail t n) (cursor-small e (a .x)) (glyph-small t bytes n)),
+        ),
+      )
 
 few-cond : (t : Bool) (f g : Figure) → Few f → Few g → Few (cond t f g)
 few-cond true f g u v = u
@@ -186,7 +202,8 @@ pub record Sendable (n : ℕ) (out : List ℕ) : Type 0 where
   pub fits : n ≤ length out
   pub nine : Nine n out
 
-pub sendable : (sheet : List ℕ) (p h : ℕ) (t entries : List ℕ) {a : Answer} {out : List ℕ} → outcome a out ≡ translateDef sheet p h t entries
+pub sendable : (sheet : List ℕ) (p h : ℕ) (t entries : List ℕ) {a : Answer} {out : List ℕ}
+    → outcome a out ≡ translateDef sheet p h t entries
     → a .number ≡ 0 → Bytes t → Sendable (a .first) out
 sendable sheet p h t entries {a} {out} e z bytes =
     let k = translated-means sheet p h t entries e z in

@@ -47,9 +47,11 @@ refusal n a b r = record { number = n; first = a; second = b; units = 0; regs = 
 
 -- "Success is number 0, for a translation with the entries written": the translator's answer a, and all that its output then holds
 abbrev pub allSent : Answer → List ℕ → SentOutcome → Outcome
-allSent a e q = outcome (record { number = 0; first = a .first; second = a .second; units = q .sending .units; regs = q .sending .regs }) e (q .mem)
+allSent a e q =
+    outcome (record { number = 0; first = a .first; second = a .second; units = q .sending .units; regs = q .sending .regs }) e (q .mem)
 
--- the translator's 11 to 20 with their two values, else the entries that it wrote are sent; "Memory, sheet and output are unaltered by a refusal"
+-- the translator's 11 to 20 with their two values, else the entries that it wrote are sent; "Memory, sheet and output are unaltered by a
+-- refusal"
 abbrev pub drawnBy : Answer → List ℕ → Registers → List ℕ → List ℕ → Outcome
 drawnBy a e r entries mem =
     cond (eqb (a .number) 0) (allSent a e (sendingDone (state r mem) (take (a .first) e)))

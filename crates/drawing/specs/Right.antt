@@ -20,8 +20,10 @@ use Rattle.demand.specs.Shown.{Bytes}
 use Rattle.drawing.specs.declared.Drawn.{Drawn}
 use Rattle.drawing.specs.Draw.{outcome, sheetDrawn}
 
--- from the registers r and the memory mem the answer q, the entries out and the memory drawn show the figures in a plane of p words by h lines
-pub record Right (p h : ℕ) (glyphs : List ℕ) (figures : List Record) (r : Registers) (mem : List ℕ) (q : Drawn) (out drawn : List ℕ) : Type 0 where
+-- from the registers r and the memory mem the answer q, the entries out and the memory drawn show the figures in a plane of p words by h
+-- lines
+pub record Right (p h : ℕ) (glyphs : List ℕ) (figures : List Record) (r : Registers) (mem : List ℕ) (q : Drawn)
+    (out drawn : List ℕ) : Type 0 where
   -- "Success is number 0"
   pub number : q .number ≡ 0
   -- the lent entries start with the translation, and none of them was refused
@@ -37,7 +39,8 @@ pub record Right (p h : ℕ) (glyphs : List ℕ) (figures : List Record) (r : Re
   -- one unit for each entry and one for each dot
   pub units : q .units ≡ q .first + figuresDots figures
 
--- Take what `draw_sheet` answers, as its contract says it: for a sheet, P and H, glyph bytes and room for the entries that the translator accepts; a
+-- Take what `draw_sheet` answers, as its contract says it: for a sheet, P and H, glyph bytes and room for the entries that the translator
+-- accepts; a
 -- register set that is sound, in write mode, with its buffer empty and nothing being drawn, whatever else it holds (`Typed` is
 -- what its types say); and a memory of a lawful length that the picture fits, whatever it holds. Then the picture is drawn.
 abbrev pub SheetIsDrawn : Type 0

@@ -89,7 +89,9 @@ pub fn draw_sheet(
     entries: &mut [u16],
     mem: &mut [u16],
 ) -> Drawn
-    ensures { λ q. ⌜ outcome q (now (entries .exit)) (now (mem .exit)) ≡ sheetDrawn (now (sheet .entry)) p h (now (glyphs .entry)) r (now (entries .entry)) (now (mem .entry)) ⌝ }
+    ensures { λ q.
+        ⌜ outcome q (now (entries .exit)) (now (mem .exit))
+        ≡ sheetDrawn (now (sheet .entry)) p h (now (glyphs .entry)) r (now (entries .entry)) (now (mem .entry)) ⌝ }
 {
     if !registers::sound(r) {
         return refuse(1, 0, 0, r);

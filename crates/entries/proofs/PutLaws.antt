@@ -1,4 +1,5 @@
--- Entries put one after the other make one run of entries, whatever their number; what stands before and behind them stays; and a record's entries are as many
+-- Entries put one after the other make one run of entries, whatever their number; what stands before and behind them stays; and a record's
+-- entries are as many
 -- as `sizeOf` says. True because `placed` sets one place at a time, and each figure's entries are a list of known length.
 use mathlib.Core.Path.{_≡_, refl}
 use mathlib.Core.List.{List, [], _∷_, _++_}
@@ -11,7 +12,8 @@ use Rattle.dots.specs.declared.Operation.{Operation}
 use Rattle.records.specs.declared.Record.{Record}
 use Rattle.records.specs.declared.Figure.{Figure}
 use Rattle.records.specs.declared.Figure.the-variants.{Dot, Line, Rectangle, Glyph}
-use Rattle.entries.specs.Entries.{placed, plain, figureSize, sizeOf, figureEntries, entriesOf, dotEntries, lineEntries, rectangleEntries, glyphEntries}
+use Rattle.entries.specs.Entries.{placed, plain, figureSize, sizeOf, figureEntries, entriesOf, dotEntries, lineEntries}
+use Rattle.entries.specs.Entries.{rectangleEntries, glyphEntries}
 
 -- ---- the loop of `put`
 module _ (o : List ℕ) (at : ℕ) (e : List ℕ) where
@@ -33,7 +35,8 @@ module _ (o : List ℕ) (at : ℕ) (e : List ℕ) where
 pub placed-append : (o : List ℕ) (at : ℕ) (a b : List ℕ) → placed (placed o at a) (at + length a) b ≡ placed o at (a ++ b)
 unfolding placed
 placed-append o at [] b = let f : at + 0 ≡ at = omega arith in rw f
-placed-append o at (x ∷ a) b = let f : at + suc (length a) ≡ suc at + length a = omega arith in rw f (placed-append (set o at x) (suc at) a b)
+placed-append o at (x ∷ a) b =
+    let f : at + suc (length a) ≡ suc at + length a = omega arith in rw f (placed-append (set o at x) (suc at) a b)
 
 pub placed-length : (o : List ℕ) (at : ℕ) (e : List ℕ) → length (placed o at e) ≡ length o
 unfolding placed

@@ -1,4 +1,5 @@
--- The DIR of a line fits, and no smaller one does. True because of two opposite ways one always holds (so one of eight octants is met: `octant`), and
+-- The DIR of a line fits, and no smaller one does. True because of two opposite ways one always holds (so one of eight octants is met:
+-- `octant`), and
 -- because `dirOf` tries the eight in order. `slope-by` gives the slope over the six ways, its distances named.
 use mathlib.Core.Path.{_≡_, refl, sym, subst, _∙_}
 use mathlib.Core.Bool.{Bool, true, false, cond, _&&_, true≢false}
@@ -85,10 +86,12 @@ module _ (a b : Point) where
   dir-fits =
       octant (other (a .x) (b .x)) (other (a .y) (b .y)) (other x y)
       (λ r d t. rw (r, d, t)) (λ r d t w. rw (r, d, t, w)) (λ r d u w. rw (r, d, u, w)) (λ r d u w t. rw (r, d, u, w, t))
-      (λ r l u t. rw (r, l, u, t)) (λ r l u t w. rw (r, l, u, t, w)) (λ r l u d w. rw (r, l, u, d, w)) (λ r l u d w t. rw (r, l, u, d, w, t))
+      (λ r l u t. rw (r, l, u, t)) (λ r l u t w. rw (r, l, u, t, w)) (λ r l u d w. rw (r, l, u, d, w))
+      (λ r l u d w t. rw (r, l, u, d, w, t))
 
 -- the first test of `direction`, by the distances that it holds
-pub dir-first : {x y : ℕ} (a b : Point) → x ≡ distance (a .x) (b .x) → y ≡ distance (a .y) (b .y) → (rightB a b && downB a b && leb x y) ≡ true → 0 ≡ dirOf a b
+pub dir-first : {x y : ℕ} (a b : Point) → x ≡ distance (a .x) (b .x) → y ≡ distance (a .y) (b .y)
+    → (rightB a b && downB a b && leb x y) ≡ true → 0 ≡ dirOf a b
 unfolding dirOf
 dir-first a b p q e = rw (← p, ← q, e)
 
@@ -110,7 +113,8 @@ short (true ∷ l) = omega arith
 short (false ∷ l) = omega (arith, short l)
 
 -- trying in order gives the first
-in-order : (a b c d e f g : Bool) → cond a 0 (cond b 1 (cond c 2 (cond d 3 (cond e 4 (cond f 5 (cond g 6 7)))))) ≡ firstIn (a ∷ b ∷ c ∷ d ∷ e ∷ f ∷ g ∷ [])
+in-order : (a b c d e f g : Bool) → cond a 0 (cond b 1 (cond c 2 (cond d 3 (cond e 4 (cond f 5 (cond g 6 7))))))
+    ≡ firstIn (a ∷ b ∷ c ∷ d ∷ e ∷ f ∷ g ∷ [])
 in-order true b c d e f g = refl
 in-order false true c d e f g = refl
 in-order false false true d e f g = refl

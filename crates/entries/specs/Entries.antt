@@ -72,8 +72,10 @@ tallB a b = leb (distance (a .x) (b .x)) (distance (a .y) (b .y))
 abbrev pub wideB : Point → Point → Bool
 wideB a b = leb (distance (a .y) (b .y)) (distance (a .x) (b .x))
 
--- A DIR fits where its axis is the way of the larger distance and its diagonal adds the way of the smaller: "For even DIR the axis is DIR and
--- the diagonal DIR + 1; for odd, the axis is DIR + 1 mod 8 and the diagonal DIR", "0 to 7: down, down-right, right, up-right, up, up-left, left, down-left"
+-- A DIR fits where its axis is the way of the larger distance and its diagonal adds the way of the smaller: "For even DIR the axis is DIR
+-- and
+-- the diagonal DIR + 1; for odd, the axis is DIR + 1 mod 8 and the diagonal DIR", "0 to 7: down, down-right, right, up-right, up, up-left,
+-- left, down-left"
 abbrev pub dirFits : ℕ → Point → Point → Bool
 dirFits d a b =
     cond (eqb d 0) (rightB a b && downB a b && tallB a b)
@@ -113,7 +115,8 @@ lineEntries op p a b = headEntries op p a ++ lineBy (slopeOf a b)
 
 -- ---- rectangles
 
--- "rectangle from its top left, DIR 0, DC 3, D height - 1, D2 width - 1, D1 -1, DM = D", FIGD; "6 R"; -1 is FF 3F in 14 bits; w and h are the corners' distances
+-- "rectangle from its top left, DIR 0, DC 3, D height - 1, D2 width - 1, D1 -1, DM = D", FIGD; "6 R"; -1 is FF 3F in 14 bits; w and h are
+-- the corners' distances
 unfoldable pub rectangleEntries : Operation → ℕ → Point → ℕ → ℕ → List ℕ
 rectangleEntries op p a w h = headEntries op p a ++ 0x14C ∷ 0x40 ∷ both 3 ++ both h ++ both w ++ 0xFF ∷ 0x3F ∷ both h ++ 0x16C ∷ []
 
@@ -127,7 +130,8 @@ greatest a b = record { x = max (a .x) (b .x); y = max (a .y) (b .y) }
 abbrev pub flatB : Point → Point → Bool
 flatB a b = eqb (a .x) (b .x) || eqb (a .y) (b .y)
 
--- "A rectangle one dot wide or high is translated as the line from its least to its greatest corner"; the corners of another are put in order
+-- "A rectangle one dot wide or high is translated as the line from its least to its greatest corner"; the corners of another are put in
+-- order
 abbrev pub plain : Figure → Figure
 plain (Dot a) = Dot a
 plain (Line a b) = Line a b

@@ -6,7 +6,8 @@ use records::Record;
 ghost use mathlib.Core.Path.{_≡_};
 ghost use Prim.Native.Nat.{_+_, _*_, _/_, _%_, _-_, _<_, min, max};
 ghost use lib.ListN.{getD, set};
-ghost use Rattle.entries.specs.Entries.{opNumber, minus14, distance, dirOf, slopeOf, dotEntries, lineEntries, rectangleEntries, glyphEntries, least, greatest, plain, sizeOf, entriesOf, placed};
+ghost use Rattle.entries.specs.Entries.{opNumber, minus14, distance, dirOf, slopeOf, dotEntries, lineEntries, rectangleEntries};
+ghost use Rattle.entries.specs.Entries.{glyphEntries, least, greatest, plain, sizeOf, entriesOf, placed};
 
 // A line's direction, its larger distance and its smaller one.
 pub struct Slope {

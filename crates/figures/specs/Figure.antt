@@ -53,7 +53,8 @@ directionAt f k d =
 unfoldable pub runningD : Drawing → ℕ → ℕ
 runningD f d = cond (eqb (f .kind) lineKind) (errorAfter f d) d
 
--- "One step between consecutive dots, none after the last; it .. is made in the earlier dot's unit, and the figure ends in its last dot's unit."
+-- "One step between consecutive dots, none after the last; it .. is made in the earlier dot's unit, and the figure ends in its last dot's
+-- unit."
 unfoldable pub figureMoved : ℕ → ℕ → Registers → Registers
 figureMoved k d r =
     cond (ltb (k + 1) (dotsOf (r .drawing)))

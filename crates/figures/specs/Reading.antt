@@ -36,7 +36,8 @@ readOn t i dc = cond (ltb (i + 1) dc) (Reading (i + 1) t) Idle
 -- the item is given and EAD moves a whole word, as after each set of WDAT
 unfoldable pub itemGiven : ℕ → Transfer → ℕ → Registers → Registers
 itemGiven i t w r =
-    putWork (putCursor (putBuffer r (given t w (r .buffer))) (wordMoveOf (r .drawing .dir) (r .pitch) (r .cursor))) (readOn t i (r .drawing .dc))
+    putWork (putCursor (putBuffer r (given t w (r .buffer))) (wordMoveOf (r .drawing .dir) (r .pitch) (r .cursor)))
+    (readOn t i (r .drawing .dc))
 
 -- "one item of the read in progress if its one or two bytes fit"
 unfoldable pub readUnit : ℕ → Transfer → State → State

@@ -60,14 +60,22 @@ record Ways (across right down : Bool) (axis diagonal : ℕ) : Type 0 where
   diagonal-y : dy diagonal ≡ change down
 
 ways : (across right down : Bool) → Ways across right down (axisOf (dirOf across right down)) (diagonalOf (dirOf across right down))
-ways true true true = record { axis-lt = omega arith; diagonal-lt = omega arith; axis-x = refl; axis-y = refl; diagonal-x = refl; diagonal-y = refl }
-ways true true false = record { axis-lt = omega arith; diagonal-lt = omega arith; axis-x = refl; axis-y = refl; diagonal-x = refl; diagonal-y = refl }
-ways true false true = record { axis-lt = omega arith; diagonal-lt = omega arith; axis-x = refl; axis-y = refl; diagonal-x = refl; diagonal-y = refl }
-ways true false false = record { axis-lt = omega arith; diagonal-lt = omega arith; axis-x = refl; axis-y = refl; diagonal-x = refl; diagonal-y = refl }
-ways false true true = record { axis-lt = omega arith; diagonal-lt = omega arith; axis-x = refl; axis-y = refl; diagonal-x = refl; diagonal-y = refl }
-ways false true false = record { axis-lt = omega arith; diagonal-lt = omega arith; axis-x = refl; axis-y = refl; diagonal-x = refl; diagonal-y = refl }
-ways false false true = record { axis-lt = omega arith; diagonal-lt = omega arith; axis-x = refl; axis-y = refl; diagonal-x = refl; diagonal-y = refl }
-ways false false false = record { axis-lt = omega arith; diagonal-lt = omega arith; axis-x = refl; axis-y = refl; diagonal-x = refl; diagonal-y = refl }
+ways true true true =
+    record { axis-lt = omega arith; diagonal-lt = omega arith; axis-x = refl; axis-y = refl; diagonal-x = refl; diagonal-y = refl }
+ways true true false =
+    record { axis-lt = omega arith; diagonal-lt = omega arith; axis-x = refl; axis-y = refl; diagonal-x = refl; diagonal-y = refl }
+ways true false true =
+    record { axis-lt = omega arith; diagonal-lt = omega arith; axis-x = refl; axis-y = refl; diagonal-x = refl; diagonal-y = refl }
+ways true false false =
+    record { axis-lt = omega arith; diagonal-lt = omega arith; axis-x = refl; axis-y = refl; diagonal-x = refl; diagonal-y = refl }
+ways false true true =
+    record { axis-lt = omega arith; diagonal-lt = omega arith; axis-x = refl; axis-y = refl; diagonal-x = refl; diagonal-y = refl }
+ways false true false =
+    record { axis-lt = omega arith; diagonal-lt = omega arith; axis-x = refl; axis-y = refl; diagonal-x = refl; diagonal-y = refl }
+ways false false true =
+    record { axis-lt = omega arith; diagonal-lt = omega arith; axis-x = refl; axis-y = refl; diagonal-x = refl; diagonal-y = refl }
+ways false false false =
+    record { axis-lt = omega arith; diagonal-lt = omega arith; axis-x = refl; axis-y = refl; diagonal-x = refl; diagonal-y = refl }
 
 -- one dot on, short of the far end
 one-on : (s : Bool) (a b k j d : ℕ) → Apart s a b k → j < k → d ≡ change s → ahead s a (suc j) + 1 ≡ ahead s a j + d
@@ -75,7 +83,8 @@ one-on true a b k j d v h e = omega arith
 one-on false a b k j d v h e = omega arith
 
 module _ (n m : ℕ) (le : m ≤ n) (b : n < 4096) where
-  stays : (s : Bool) (a i d : ℕ) → i < n → negative (ruled n m i .d) ≡ true → d ≡ 1 → ahead s a (minor n m (suc i)) + 1 ≡ ahead s a (minor n m i) + d
+  stays : (s : Bool) (a i d : ℕ) → i < n → negative (ruled n m i .d) ≡ true → d ≡ 1
+      → ahead s a (minor n m (suc i)) + 1 ≡ ahead s a (minor n m i) + d
   stays s a i d k t e = rw (axis-move n m le (omega arith) b i t, e)
 
   goes-on : (s : Bool) (a z i d : ℕ) → Apart s a z m → i < n → negative (ruled n m i .d) ≡ false → d ≡ change s
@@ -96,13 +105,26 @@ module _ {x0 y0 x1 y1 n m : ℕ} (o : Octant x0 y0 x1 y1 n m) where
   pub moves : (dir : ℕ) → dirOf (o .across) (o .right) (o .down) ≡ dir → n < 4096 → (i : ℕ) → i < n
       → Next (cond (negative (ruled n m i .d)) (axisOf dir) (diagonalOf dir)) (octantX i) (octantY i) (octantX (suc i)) (octantY (suc i))
   moves dir is b i k =
-      rw (← is) (go (o .across) (o .right) (o .down) (ways (o .across) (o .right) (o .down)) (o .wide) (o .tall) (negative (ruled n m i .d)) refl)
+      rw (← is) (go (o .across) (o .right) (o .down) (ways (o .across) (o .right) (o .down)) (o .wide) (o .tall)
+      (negative (ruled n m i .d)) refl)
     where
       go : (ac r d : Bool) {axis diagonal : ℕ} → Ways ac r d axis diagonal → Apart r x0 x1 (cond ac n m) → Apart d y0 y1 (cond ac m n)
           → (t : Bool) → negative (ruled n m i .d) ≡ t
           → Next (cond t axis diagonal) (ahead r x0 (cond ac i (minor n m i))) (ahead d y0 (cond ac (minor n m i) i))
           (ahead r x0 (cond ac (suc i) (minor n m (suc i)))) (ahead d y0 (cond ac (minor n m (suc i)) (suc i)))
-      go true r d w u v true t = record { small = w .axis-lt; across = one-on r x0 x1 n i _ u k (w .axis-x); along = stays n m (o .le) b d y0 i _ k t (w .axis-y) }
-      go true r d w u v false t = record { small = w .diagonal-lt; across = one-on r x0 x1 n i _ u k (w .diagonal-x); along = goes-on n m (o .le) b d y0 y1 i _ v k t (w .diagonal-y) }
-      go false r d w u v true t = record { small = w .axis-lt; across = stays n m (o .le) b r x0 i _ k t (w .axis-x); along = one-on d y0 y1 n i _ v k (w .axis-y) }
-      go false r d w u v false t = record { small = w .diagonal-lt; across = goes-on n m (o .le) b r x0 x1 i _ u k t (w .diagonal-x); along = one-on d y0 y1 n i _ v k (w .diagonal-y) }
+      go true r d w u v true t =
+          record { small = w .axis-lt; across = one-on r x0 x1 n i _ u k (w .axis-x); along = stays n m (o .le) b d y0 i _ k t (w .axis-y) }
+      go true r d w u v false t =
+          record {
+            small = w .diagonal-lt;
+            across = one-on r x0 x1 n i _ u k (w .diagonal-x);
+            along = goes-on n m (o .le) b d y0 y1 i _ v k t (w .diagonal-y);
+          }
+      go false r d w u v true t =
+          record { small = w .axis-lt; across = stays n m (o .le) b r x0 i _ k t (w .axis-x); along = one-on d y0 y1 n i _ v k (w .axis-y) }
+      go false r d w u v false t =
+          record {
+            small = w .diagonal-lt;
+            across = goes-on n m (o .le) b r x0 x1 i _ u k t (w .diagonal-x);
+            along = one-on d y0 y1 n i _ v k (w .diagonal-y);
+          }

@@ -18,5 +18,8 @@ use Rattle.ports.specs.Port.{queuedOr3, commandWritten, parameterWritten, byteR
 use Rattle.laws.specs.BenchSheet.{bench, AllHold}
 
 pub bench-holds : AllHold bench
-unfolding bench oneBit combined bit ofBits freshSet dotsOf allBelow soundB pushed oldest popped familyOf commandOf operationOf figureBegun commandTaken cursBy ramBy pitchBy maskBy figsBy setDone wdatTaken nextOf parameterTaken entryTaken patternOf patternAt lineDirection errorAfter directionAt runningD figureMoved figureUnit fetched unitDone reasonOf runFrom lengthB runDone queuedOr3 commandWritten parameterWritten byteRead
+unfolding bench oneBit combined bit ofBits freshSet dotsOf allBelow soundB pushed oldest popped familyOf commandOf operationOf figureBegun
+    commandTaken cursBy ramBy pitchBy maskBy figsBy setDone wdatTaken nextOf parameterTaken entryTaken patternOf patternAt lineDirection
+    errorAfter directionAt runningD figureMoved figureUnit fetched unitDone reasonOf runFrom lengthB runDone queuedOr3 commandWritten
+    parameterWritten byteRead
 bench-holds = (refl, (refl, (refl, (refl, (refl, (refl, (refl, (refl, (refl, (refl, (refl, (refl, (refl, (refl, (refl, tt)))))))))))))))

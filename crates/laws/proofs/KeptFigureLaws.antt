@@ -131,7 +131,8 @@ unfolding readUnit
 read-kept n i t s w e =
     either (Whole n) (roomB t (s .regs .buffer))
     (record {
-      regs = item-kept (s .regs) (w .regs) i t e (metBy (s .regs .cursor .ead) (s .mem)) (w .words .below (s .regs .cursor .ead % length (s .mem)));
+      regs = item-kept (s .regs) (w .regs) i t e (metBy (s .regs .cursor .ead) (s .mem))
+          (w .words .below (s .regs .cursor .ead % length (s .mem)));
       words = w .words;
       long = w .long;
     })

@@ -108,7 +108,15 @@ module _ (r : Registers) (l : Lawful r) where
 
   pub plain-kept : (pitch : ℕ) (op : Operation) → Lawful (putOp (putPitch r pitch) op)
   plain-kept pitch op =
-      record { cursor = l .cursor; drawing = l .drawing; ram = l .ram; pen = l .pen; buffer = l .buffer; progress = l .progress; work = l .work }
+      record {
+        cursor = l .cursor;
+        drawing = l .drawing;
+        ram = l .ram;
+        pen = l .pen;
+        buffer = l .buffer;
+        progress = l .progress;
+        work = l .work;
+      }
 
   pub drawing-kept : r .work ≡ Idle → (f : Drawing) → DrawingFits f → Lawful (putDrawing r f)
   drawing-kept e f h =

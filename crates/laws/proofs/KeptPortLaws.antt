@@ -12,7 +12,8 @@ use Rattle.registers.specs.declared.Registers.{Registers}
 use Rattle.registers.specs.Sound.{soundB, markB}
 use Rattle.registers.specs.Buffer.{pushed, popped}
 use Rattle.ports.specs.declared.Answer.{Answer}
-use Rattle.ports.specs.Port.{queued, turnedBack, queuedOr3, commandIn, commandWritten, parameterIn, parameterWritten, byteIn, byteRead, statusRead, penPosted}
+use Rattle.ports.specs.Port.{queued, turnedBack, queuedOr3, commandIn, commandWritten, parameterIn, parameterWritten, byteIn, byteRead}
+use Rattle.ports.specs.Port.{statusRead, penPosted}
 use Rattle.laws.proofs.BranchLaws.{either, cases}
 use Rattle.laws.proofs.KeptLaws.{Lawful, buffer-kept, pen-kept}
 use Rattle.laws.proofs.KeptBufferLaws.{empty-queue, pushed-queue, popped-queue}

@@ -15,7 +15,8 @@ use Rattle.dots.proofs.Below.{below}
 use Rattle.registers.specs.declared.Mode.the-variants.{Write, Read}
 use Rattle.registers.specs.declared.Transfer.{Transfer}
 use Rattle.registers.specs.declared.Command.{Command}
-use Rattle.registers.specs.declared.Command.the-variants.{Nothing, Reset, Vsync, Cchar, Start, Zoom, Curs, Pram, Pitch, Mask, Figs, Figd, Gchrd, Curd, Lprd, Wdat, Rdat, Unknown}
+use Rattle.registers.specs.declared.Command.the-variants.{Nothing, Reset, Vsync, Cchar, Start, Zoom, Curs, Pram, Pitch, Mask, Figs, Figd}
+use Rattle.registers.specs.declared.Command.the-variants.{Gchrd, Curd, Lprd, Wdat, Rdat, Unknown}
 use Rattle.registers.specs.declared.Work.the-variants.{Idle, Figure, Character, Reading}
 use Rattle.registers.specs.declared.Drawing.{Drawing}
 use Rattle.registers.specs.declared.Pen.{Pen}
@@ -28,13 +29,15 @@ use Rattle.registers.specs.Put.{putCursor, putProgress}
 use Rattle.registers.specs.State.{State, state}
 use Rattle.registers.proofs.BoolLaws.{and-left, and-right}
 use Rattle.commands.specs.Decode.{within, commandOf}
-use Rattle.processor.specs.Command.{begun, resetDone, turned, cursorBytes, penBytes, operationOf, figureBegun, characterBegun, readBegun, commandBy, commandTaken}
+use Rattle.processor.specs.Command.{begun, resetDone, turned, cursorBytes, penBytes, operationOf, figureBegun, characterBegun, readBegun}
+use Rattle.processor.specs.Command.{commandBy, commandTaken}
 use Rattle.processor.specs.Parameter.{cursBy, maskBy, figsBy, ramBy, pitchBy, syncBy, ccharBy, zoomBy}
 use Rattle.processor.specs.Wdat.{halfB, wdatPattern, wdatProgress, setDone, wdatTaken}
 use Rattle.processor.specs.Entry.{nextOf, counted, parameterBy, parameterTaken, entryTaken}
 use Rattle.laws.proofs.BranchLaws.{either, cases}
 use Rattle.laws.proofs.SoundLaws.{DrawingFits}
-use Rattle.laws.proofs.KeptLaws.{Queue, Lawful, Whole, idle, cursor-kept, plain-kept, drawing-kept, ram-kept, video-kept, pen-kept, progress-kept, work-kept, cycle-kept}
+use Rattle.laws.proofs.KeptLaws.{Queue, Lawful, Whole, idle, cursor-kept, plain-kept, drawing-kept, ram-kept, video-kept, pen-kept}
+use Rattle.laws.proofs.KeptLaws.{progress-kept, work-kept, cycle-kept}
 use Rattle.laws.proofs.KeptBufferLaws.{bytes-queue, empty-queue}
 
 -- ---- commands
@@ -118,8 +121,11 @@ module _ (r : Registers) (l : Lawful r) (e : r .work ≡ Idle) where
         cases Lawful (ltb 0 rows && ltb 0 columns)
         (λ p. work-kept r l (Character 0 0 (r .cursor))
         (record {
-          place =
-              (ltb-true 0 rows (and-left (ltb 0 rows) (ltb 0 columns) p), ltb-true 0 columns (and-right (ltb 0 rows) (ltb 0 columns) p), l .cursor .ead);
+          place = (
+            ltb-true 0 rows (and-left (ltb 0 rows) (ltb 0 columns) p),
+            ltb-true 0 columns (and-right (ltb 0 rows) (ltb 0 columns) p),
+            l .cursor .ead,
+          );
           mode = write;
           start = l .cursor .mask;
         }))
@@ -206,7 +212,8 @@ module _ (n : ℕ) (r : Registers) (m : List ℕ) (w : Whole n (state r m)) wher
   unfolding setDone
   set-kept t =
       let moved = wordMoveOf (r .drawing .dir) (r .pitch) (r .cursor) in
-      progress-kept (putCursor r moved) (cursor-kept r (w .regs) moved (word-fits (r .drawing .dir) (r .pitch) (r .cursor) (w .regs .cursor)))
+      progress-kept (putCursor r moved) (cursor-kept r (w .regs) moved
+      (word-fits (r .drawing .dir) (r .pitch) (r .cursor) (w .regs .cursor)))
       (wdatProgress t 0 0) (omega arith)
 
   wdat-kept : (t : Transfer) (i v : ℕ) → Whole n (wdatTaken t i v r m)
@@ -243,7 +250,8 @@ pub parameter-kept : (n v : ℕ) (s : State) → Whole n s → s .regs .work ≡
 unfolding parameterTaken nextOf
 parameter-kept n v s w e byte =
     let p = s .regs .progress in
-    let few : counted p .next ≤ 16 = cases (λ (k : ℕ). k ≤ 16) (ltb (p .next) 16) (λ t. omega (arith, ltb-true (p .next) 16 t)) (λ t. omega arith) in
+    let few : counted p .next ≤ 16 =
+    cases (λ (k : ℕ). k ≤ 16) (ltb (p .next) 16) (λ t. omega (arith, ltb-true (p .next) 16 t)) (λ t. omega arith) in
     parameter-by n (putProgress (s .regs) (counted p)) (s .mem)
     (record { regs = progress-kept (s .regs) (w .regs) (counted p) few; words = w .words; long = w .long })
     e (p .next) v byte (p .command)

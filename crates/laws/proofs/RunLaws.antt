@@ -163,7 +163,8 @@ run-from-reason budget s =
         record { why = q .0; two = rw (q .0) (two-of (reasonOf (o .ran .regs)) (q .1) k); three = rw (q .0) (k .few) }
 
 -- where no unit applies, a run does nothing and says why: "nothing is in progress or, in write mode, queued, or a read awaits room"
-pub run-from-idle : (budget k : ℕ) (s : State) → 0 < budget → (reasonOf (s .regs) ≡ 0 → ⊥) → runFrom budget k s ≡ stopped s k (reasonOf (s .regs))
+pub run-from-idle : (budget k : ℕ) (s : State) → 0 < budget → (reasonOf (s .regs) ≡ 0 → ⊥)
+    → runFrom budget k s ≡ stopped s k (reasonOf (s .regs))
 unfolding runFrom
 run-from-idle zero k s h n = absurd (omega arith)
 run-from-idle (suc f) k s h n = rw (ne-eqb (reasonOf (s .regs)) 0 n)
@@ -217,7 +218,8 @@ went-on (suc a) b k s y =
     go false ih h = absurd (reason-kinds (s .regs) .not-1 h)
 
 -- a run whose budget a was spent, and one of b units more, are one run of the sum
-pub run-from-joined : (a b : ℕ) (s : State) → runFrom a 0 s .ran .why ≡ 1 → runFrom (a + b) 0 s ≡ further a (runFrom b 0 (leftBy (runFrom a 0 s)))
+pub run-from-joined : (a b : ℕ) (s : State) → runFrom a 0 s .ran .why ≡ 1
+    → runFrom (a + b) 0 s ≡ further a (runFrom b 0 (leftBy (runFrom a 0 s)))
 run-from-joined a b s y =
     let t = leftBy (runFrom a 0 s) in
     let e : 0 + a ≡ a + 0 = omega arith in

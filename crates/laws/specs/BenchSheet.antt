@@ -69,7 +69,8 @@ abbrev pub minus14 : ℕ → ℕ → ℕ
 minus14 a b = (a + 16384 - b) % 16384
 
 -- "PITCH P; .. WDAT word with the operation, .. CURS (3 bytes), PRAM 8 with FF FF, FIGS, FIGD"; "line L with the smallest fitting DIR,
--- DC N, D 2m - N, D2 2m - 2N, D1 2m": of pitch 1, with SET, from (x, y). (Which DIR is the smallest that fits is the translator's `slopeOf`.)
+-- DC N, D 2m - N, D2 2m - 2N, D1 2m": of pitch 1, with SET, from (x, y). (Which DIR is the smallest that fits is the translator's
+-- `slopeOf`.)
 abbrev pub line : ℕ → ℕ → ℕ → ℕ → ℕ → List ℕ
 line x y dir n m =
     0x147 ∷ 1 ∷ 0x123 ∷ 0x149 ∷ y ∷ 0 ∷ (16 * x) ∷ 0x178 ∷ 0xFF ∷ 0xFF ∷ 0x14C ∷ (8 + dir)
@@ -87,7 +88,9 @@ slope r = r .drawing .dir ∷ r .drawing .d ∷ r .drawing .d2 ∷ r .drawing .d
 abbrev pub flat : State
 flat =
     state
-    (putCursor (putRam (putOp (putDrawing freshSet (record { kind = rectangleKind; dir = 0; gd = false; dc = 3; d = 0; d2 = 0; d1 = 16383; dm = 0 })) Set) (replicate 16 0xFF)) (standing 0 0x0001))
+    (putCursor (putRam
+    (putOp (putDrawing freshSet (record { kind = rectangleKind; dir = 0; gd = false; dc = 3; d = 0; d2 = 0; d1 = 16383; dm = 0 })) Set)
+    (replicate 16 0xFF)) (standing 0 0x0001))
     (replicate 16 0)
 
 -- ---- the sheet

@@ -1,4 +1,5 @@
-// Reads a drawing sheet, for a plane of 40 words by 400 lines with no glyphs, and writes its entries, one to a line, or why it is refused (in words on standard error).
+// Reads a drawing sheet, for a plane of 40 words by 400 lines with no glyphs, and writes its entries, one to a line, or why it is refused
+// (in words on standard error).
 use blocks::Answer;
 ghost use mathlib.Core.Path.{_≡_};
 ghost use Prim.Native.Nat.{_%_};

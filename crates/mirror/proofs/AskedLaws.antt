@@ -1,7 +1,7 @@
 -- The run of what is a register set, step by step as `kranichseil_run` makes it, is the definition. True since each step is an equation.
 use Prim.Native.Nat.{ℕ}
-use mathlib.Core.Path.{_≡_, refl, sym, ap, _∙_}
-use mathlib.Core.Bool.{Bool, true, false}
+use mathlib.Core.Path.{_≡_, ap, _∙_}
+use mathlib.Core.Bool.{true}
 use mathlib.Core.List.{List}
 use Rattle.registers.specs.declared.Registers.{Registers}
 use Rattle.registers.specs.State.{state}
@@ -14,7 +14,8 @@ use Rattle.mirror.specs.Mirror.{fromPlain}
 use Rattle.mirror.specs.Asked.{plained, ranPlain, ranOn}
 
 module _ (f : ℕ) (p : PlainRegisters) (m : List ℕ) where
-  pub runs : {x : Registers} {d : Ran} {z : List ℕ} {y : PlainRan} → formB p ≡ true → x ≡ fromPlain p → outcome d z ≡ runDone f (state x m) → y ≡ ranPlain d
+  pub runs : {x : Registers} {d : Ran} {z : List ℕ} {y : PlainRan} → formB p ≡ true → x ≡ fromPlain p → outcome d z ≡ runDone f (state x m)
+      → y ≡ ranPlain d
       → plained y z ≡ ranOn p m (runDone f (state (fromPlain p) m))
   runs s e q r =
       rw (s, r) (ap (λ (o : Outcome). plained (ranPlain (o .ran)) (o .mem)) (q ∙ ap (λ (u : Registers). runDone f (state u m)) e))

@@ -7,7 +7,7 @@ use mathlib.Core.Bool.{true}
 use mathlib.Core.List.{List}
 use Rattle.registers.specs.declared.Registers.{Registers}
 use Rattle.registers.specs.State.{state}
-use Rattle.units.specs.Run.{Outcome, runDone}
+use Rattle.units.specs.Run.{runDone}
 use Rattle.ports.specs.declared.Answer.{Answer}
 use Rattle.sheets.specs.Sheet.{Outcome as Sheet}
 use Rattle.mirror.specs.declared.PlainRegisters.{PlainRegisters}
@@ -24,7 +24,8 @@ pub asked-is : (f : Registers → Answer) (r : Registers) → asked (toPlain r) 
 asked-is f r = rw (formed-to r, from-to r)
 
 -- the run
-pub run-is : (n : ℕ) (r : Registers) (m : List ℕ) → ranOn (toPlain r) m (runDone n (state (fromPlain (toPlain r)) m)) ≡ plained (ranPlain (runDone n (state r m) .ran)) (runDone n (state r m) .mem)
+pub run-is : (n : ℕ) (r : Registers) (m : List ℕ) → ranOn (toPlain r) m (runDone n (state (fromPlain (toPlain r)) m))
+    ≡ plained (ranPlain (runDone n (state r m) .ran)) (runDone n (state r m) .mem)
 run-is n r m = rw (formed-to r, from-to r)
 
 -- a register set that comes back may be handed in again

@@ -1,15 +1,17 @@
 -- The register set and its plain numbers: the conversions are inverse to each other on what is formed, and what a register set is
 -- turned into is formed. So nothing of a register set is lost between two calls, and a set that is refused for its form is none.
 use mathlib.Core.Path.{_≡_}
-use mathlib.Core.Bool.{Bool, true, _&&_}
+use mathlib.Core.Bool.{true, _&&_}
 use lib.Dec.{ltb}
 use Rattle.registers.specs.declared.Registers.{Registers}
 use Rattle.registers.proofs.BoolLaws.{and-left, and-right}
 use Rattle.mirror.specs.declared.PlainRegisters.{PlainRegisters}
 use Rattle.mirror.specs.Form.{commandFormB, workFormB, bitsB, formB}
 use Rattle.mirror.specs.Mirror.{fromPlain, toPlain}
-use Rattle.mirror.proofs.NumberLaws.{bit-fits, operation-back, operation-fits, operation-there, mode-back, mode-fits, mode-there, command-fits}
-use Rattle.mirror.proofs.PartLaws.{drawing-back, drawing-there, video-back, video-there, pen-back, pen-there, progress-back, progress-there, work-back, work-fits, work-there}
+use Rattle.mirror.proofs.NumberLaws.{bit-fits, operation-back, operation-fits, operation-there, mode-back, mode-fits, mode-there}
+use Rattle.mirror.proofs.NumberLaws.{command-fits}
+use Rattle.mirror.proofs.PartLaws.{drawing-back, drawing-there, video-back, video-there, pen-back, pen-there, progress-back}
+use Rattle.mirror.proofs.PartLaws.{progress-there, work-back, work-fits, work-there}
 
 -- the plain numbers of a register set give the set back
 pub from-to : (r : Registers) → fromPlain (toPlain r) ≡ r

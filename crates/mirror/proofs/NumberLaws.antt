@@ -16,10 +16,12 @@ use Rattle.registers.specs.declared.Mode.the-variants as mode
 use Rattle.registers.specs.declared.Transfer.{Transfer}
 use Rattle.registers.specs.declared.Transfer.the-variants as transfer
 use Rattle.registers.specs.declared.Command.{Command}
-use Rattle.registers.specs.declared.Command.the-variants.{Nothing, Reset, Vsync, Cchar, Start, Zoom, Curs, Pram, Pitch, Mask, Figs, Figd, Gchrd, Curd, Lprd, Wdat, Rdat, Unknown}
+use Rattle.registers.specs.declared.Command.the-variants.{Nothing, Reset, Vsync, Cchar, Start, Zoom, Curs, Pram, Pitch, Mask, Figs, Figd}
+use Rattle.registers.specs.declared.Command.the-variants.{Gchrd, Curd, Lprd, Wdat, Rdat, Unknown}
 use Rattle.registers.proofs.Command as C
 use Rattle.registers.proofs.BoolLaws.{false-true}
-use Rattle.mirror.specs.Numbers.{bitOf, bitNumber, operationOf, operationNumber, modeOf, modeNumber, transferOf, transferNumber, commandOf, commandNumber, commandTransfer}
+use Rattle.mirror.specs.Numbers.{bitOf, bitNumber, operationOf, operationNumber, modeOf, modeNumber, transferOf, transferNumber}
+use Rattle.mirror.specs.Numbers.{commandOf, commandNumber, commandTransfer}
 use Rattle.mirror.specs.Form.{commandFormB}
 
 -- a command that is neither WDAT nor RDAT has no transfer
@@ -167,8 +169,13 @@ command-below n x e false q =
 
 pub command-there : (n x : ℕ) → commandFormB n x ≡ true → commandNumber (commandOf n x) ≡ n
 command-there n x e =
-    each (λ k. commandNumber (commandOf k x) ≡ k) 18
-    ((((((((((((((((((tt, refl), refl), refl), refl), refl), refl), refl), refl), refl), refl), refl), refl), refl), refl), refl), refl), refl), refl) n
+    each (λ k. commandNumber (commandOf k x) ≡ k) 18 (
+      (
+        ((((((((((((((((tt, refl), refl), refl), refl), refl), refl), refl), refl), refl), refl), refl), refl), refl), refl), refl), refl),
+        refl,
+      ),
+      refl,
+    ) n
     (command-below n x e (ltb n 18) refl)
 
 -- the transfer beside it: 0, but for WDAT and RDAT
@@ -180,4 +187,40 @@ none-beside x e = sym (eqb-true x 0 e)
 
 pub transfer-beside : (n x : ℕ) → commandFormB n x ≡ true → commandTransfer (commandOf n x) ≡ x
 transfer-beside n x e =
-    each (Beside x) 18 ((((((((((((((((((tt, none-beside x), none-beside x), none-beside x), none-beside x), none-beside x), none-beside x), none-beside x), none-beside x), none-beside x), none-beside x), none-beside x), none-beside x), none-beside x), none-beside x), none-beside x), transfer-there x), transfer-there x), none-beside x) n (command-below n x e (ltb n 18) refl) e
+    each (Beside x) 18 (
+      (
+        (
+          (
+            (
+              (
+                (
+                  (
+                    (
+                      (
+                        (
+                          (
+                            ((((((tt, none-beside x), none-beside x), none-beside x), none-beside x), none-beside x), none-beside x),
+                            none-beside x,
+                          ),
+                          none-beside x,
+                        ),
+                        none-beside x,
+                      ),
+                      none-beside x,
+                    ),
+                    none-beside x,
+                  ),
+                  none-beside x,
+                ),
+                none-beside x,
+              ),
+              none-beside x,
+            ),
+            none-beside x,
+          ),
+          transfer-there x,
+        ),
+        transfer-there x,
+      ),
+      none-beside x,
+    ) n (command-below n x e (ltb n 18) refl) e

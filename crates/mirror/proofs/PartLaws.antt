@@ -2,11 +2,10 @@
 -- the part that they give. True field by field; what is in progress, case by case.
 use Prim.Native.Nat.{ℕ, zero, suc, _≤_}
 use mathlib.Core.Path.{_≡_, refl, sym, _∙_}
-use mathlib.Core.Bool.{Bool, true, false, _&&_}
+use mathlib.Core.Bool.{true, false, _&&_}
 use lib.Dec.{eqb, ltb}
 use native.Mathlib.Omega.{arith}
 use borrow.Author.Tests.{eqb-true, ne-eqb}
-use Rattle.dots.specs.declared.Cursor.{Cursor}
 use Rattle.registers.specs.declared.Drawing.{Drawing}
 use Rattle.registers.specs.declared.Video.{Video}
 use Rattle.registers.specs.declared.Pen.{Pen}
@@ -14,15 +13,16 @@ use Rattle.registers.specs.declared.Progress.{Progress}
 use Rattle.registers.specs.declared.Work.{Work}
 use Rattle.registers.specs.declared.Work.the-variants.{Idle, Figure, Character, Reading}
 use Rattle.registers.proofs.BoolLaws.{and-left, and-right, false-true}
-use Rattle.mirror.specs.declared.PlainCursor.{PlainCursor}
 use Rattle.mirror.specs.declared.PlainDrawing.{PlainDrawing}
 use Rattle.mirror.specs.declared.PlainVideo.{PlainVideo}
 use Rattle.mirror.specs.declared.PlainPen.{PlainPen}
 use Rattle.mirror.specs.declared.PlainProgress.{PlainProgress}
 use Rattle.mirror.specs.declared.PlainWork.{PlainWork}
-use Rattle.mirror.specs.Parts.{drawingOf, drawingPlain, videoOf, videoPlain, penOf, penPlain, progressOf, progressPlain, workOf, workPlain}
+use Rattle.mirror.specs.Parts.{drawingOf, drawingPlain, videoOf, videoPlain, penOf, penPlain, progressOf, progressPlain, workOf}
+use Rattle.mirror.specs.Parts.{workPlain}
 use Rattle.mirror.specs.Form.{commandFormB, noFigureB, noCharacterB, noReadingB, workFormB}
-use Rattle.mirror.proofs.NumberLaws.{bit-back, bit-there, transfer-back, transfer-fits, transfer-there, command-back, command-there, transfer-beside}
+use Rattle.mirror.proofs.NumberLaws.{bit-back, bit-there, transfer-back, transfer-fits, transfer-there, command-back, command-there}
+use Rattle.mirror.proofs.NumberLaws.{transfer-beside}
 
 -- ---- a part, its plain numbers, the part
 pub drawing-back : (f : Drawing) → drawingOf (drawingPlain f) ≡ f
@@ -66,7 +66,12 @@ pen-there p e = λ i. record { address = p .address; set = bit-there (p .set) e 
 
 pub progress-there : (p : PlainProgress) → commandFormB (p .command) (p .transfer) ≡ true → progressPlain (progressOf p) ≡ p
 progress-there p e = λ i.
-    record { command = command-there (p .command) (p .transfer) e i; transfer = transfer-beside (p .command) (p .transfer) e i; next = p .next; low = p .low }
+    record {
+      command = command-there (p .command) (p .transfer) e i;
+      transfer = transfer-beside (p .command) (p .transfer) e i;
+      next = p .next;
+      low = p .low;
+    }
 
 -- ---- what is in progress: the fields that a kind has no use for are 0
 no-figure : (w : PlainWork) → noFigureB w ≡ true → (w .dot ≡ 0) × (w .d ≡ 0)
@@ -82,8 +87,10 @@ no-character w e =
     let c = eqb (w .start .ead) 0 in
     let d = eqb (w .start .mask) 0 in
     let f = and-left (a && b && c) d e in
-    let g = and-left (a && b) c f in
-    ((eqb-true (w .row) 0 (and-left a b g), eqb-true (w .column) 0 (and-right a b g)), (eqb-true (w .start .ead) 0 (and-right (a && b) c f), eqb-true (w .start .mask) 0 (and-right (a && b && c) d e)))
+    let g = and-left (a && b) c f in (
+      (eqb-true (w .row) 0 (and-left a b g), eqb-true (w .column) 0 (and-right a b g)),
+      (eqb-true (w .start .ead) 0 (and-right (a && b) c f), eqb-true (w .start .mask) 0 (and-right (a && b && c) d e)),
+    )
 
 no-reading : (w : PlainWork) → noReadingB w ≡ true → (w .item ≡ 0) × (w .transfer ≡ 0)
 no-reading w e =

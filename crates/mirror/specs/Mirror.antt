@@ -2,7 +2,8 @@
 use Rattle.registers.specs.declared.Registers.{Registers}
 use Rattle.mirror.specs.declared.PlainRegisters.{PlainRegisters}
 use Rattle.mirror.specs.Numbers.{operationOf, operationNumber, modeOf, modeNumber}
-use Rattle.mirror.specs.Parts.{cursorOf, cursorPlain, drawingOf, drawingPlain, videoOf, videoPlain, penOf, penPlain, bufferOf, bufferPlain, progressOf, progressPlain, workOf, workPlain}
+use Rattle.mirror.specs.Parts.{cursorOf, cursorPlain, drawingOf, drawingPlain, videoOf, videoPlain, penOf, penPlain, bufferOf}
+use Rattle.mirror.specs.Parts.{bufferPlain, progressOf, progressPlain, workOf, workPlain}
 
 unfoldable pub fromPlain : PlainRegisters → Registers
 fromPlain p =

@@ -264,7 +264,9 @@ pub extern "C" fn kranichseil_board_run(
     mem: &mut [u16],
     budget: u32,
 ) -> PlainReport
-    ensures { λ q. ⌜ report q (now (r .exit)) (now (mem .exit)) ≡ ranOn (now (r .entry)) (now (mem .entry)) (runDone budget (state (fromPlain (now (r .entry))) (now (mem .entry)))) ⌝ }
+    ensures { λ q.
+        ⌜ report q (now (r .exit)) (now (mem .exit))
+        ≡ ranOn (now (r .entry)) (now (mem .entry)) (runDone budget (state (fromPlain (now (r .entry))) (now (mem .entry)))) ⌝ }
 {
     let done = kranichseil_run(*r, mem, budget);
     *r = regs_of(done);

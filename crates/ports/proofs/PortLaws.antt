@@ -1,7 +1,7 @@
 -- The ports: an unsound set is refused first; one law for each way on. And the status is a byte: its bits have different weights.
-use mathlib.Core.Path.{_≡_, refl, sym, ap, _∙_}
+use mathlib.Core.Path.{_≡_, sym, ap, _∙_}
 use mathlib.Core.Bool.{Bool, true, false, cond}
-use Prim.Native.Nat.{ℕ, _%_, _≤_, _<_}
+use Prim.Native.Nat.{ℕ, _%_, _≤_}
 use native.Mathlib.Omega.{arith}
 use borrow.Author.Tests.{eq-eqb, ne-eqb}
 use Rattle.registers.specs.declared.Mode.{Mode}
@@ -35,6 +35,7 @@ module _ (r : Registers) where
   pub none-held : {a : Answer} → r .buffer .count ≡ 0 → a ≡ refused 5 r → a ≡ byteIn Read r
   none-held z g = rw (eq-eqb (r .buffer .count) 0 z) g
 
-  pub one-held : {a : Answer} {e : ℕ} {q : Registers} → (r .buffer .count ≡ 0 → ⊥) → e ≡ oldest (r .buffer) → q ≡ putBuffer r (popped (r .buffer))
+  pub one-held : {a : Answer} {e : ℕ} {q : Registers} → (r .buffer .count ≡ 0 → ⊥) → e ≡ oldest (r .buffer)
+      → q ≡ putBuffer r (popped (r .buffer))
       → a ≡ granted (e % 256) q → a ≡ byteIn Read r
   one-held z e p g = rw (ne-eqb (r .buffer .count) 0 z) (g ∙ (λ i. granted (e i % 256) (p i)))

@@ -75,7 +75,8 @@ abbrev pub readModeB : Mode → Bool
 readModeB Write = false
 readModeB Read = true
 
--- "Status: bit 7 light pen, 3 figure in progress, 2 buffer holds nothing, 1 holds 16, 0 read mode and a byte held"; "status bits 6, 5 and 4 read 0"
+-- "Status: bit 7 light pen, 3 figure in progress, 2 buffer holds nothing, 1 holds 16, 0 read mode and a byte held"; "status bits 6, 5 and 4
+-- read 0"
 unfoldable pub statusOf : Registers → ℕ
 statusOf r =
     128 * oneIf (r .pen .set) + 8 * oneIf (drawingB (r .work)) + 4 * oneIf (eqb (r .buffer .count) 0)

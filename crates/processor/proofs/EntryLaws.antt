@@ -1,6 +1,6 @@
 -- An entry: a parameter goes by the command in progress, each case of the code being that case of the definition; and the two
 -- kinds of entry are told apart by the mark.
-use mathlib.Core.Path.{_≡_, refl, sym, ap, _∙_}
+use mathlib.Core.Path.{_≡_, sym, ap, _∙_}
 use mathlib.Core.List.{List}
 use Prim.Native.Nat.{ℕ, _%_, _≤_, _<_}
 use native.Mathlib.Nat.{mod-eq-of-lt}
@@ -17,7 +17,8 @@ pub still : (m : List ℕ) {q n : Registers} → q ≡ n → state q m ≡ state
 still m e = ap (λ (x : Registers). state x m) e
 
 -- n has one parameter more counted, k is the command in progress
-pub parameter-by : (v : ℕ) (r : Registers) (m : List ℕ) {k : Command} {n : Registers} {s : State} → n ≡ putProgress r (counted (r .progress))
+pub parameter-by : (v : ℕ) (r : Registers) (m : List ℕ) {k : Command} {n : Registers} {s : State}
+    → n ≡ putProgress r (counted (r .progress))
     → r .progress .command ≡ k → s ≡ parameterBy k (r .progress .next) v n m → s ≡ parameterTaken v (state r m)
 unfolding parameterTaken
 parameter-by v r m e g h = h ∙ (λ i. parameterBy (sym g i) (r .progress .next) v (e i) m)

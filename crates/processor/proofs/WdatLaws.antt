@@ -1,13 +1,13 @@
 -- A byte of a WDAT set: one law for each way out of the code.
-use mathlib.Core.Path.{_≡_, refl, sym, ap, _∙_}
-use mathlib.Core.Bool.{Bool, true, false}
+use mathlib.Core.Path.{_≡_}
+use mathlib.Core.Bool.{true, false}
 use mathlib.Core.List.{List}
 use Prim.Native.Nat.{ℕ}
 use Rattle.dots.specs.Cycle.{cycled}
 use Rattle.registers.specs.declared.Transfer.{Transfer}
 use Rattle.registers.specs.declared.Registers.{Registers}
 use Rattle.registers.specs.Put.{putProgress}
-use Rattle.registers.specs.State.{State, state}
+use Rattle.registers.specs.State.{state}
 use Rattle.processor.specs.Wdat.{halfB, wdatPattern, wdatProgress, setDone, wdatTaken}
 
 module _ (t : Transfer) (i v : ℕ) (r : Registers) (m : List ℕ) where

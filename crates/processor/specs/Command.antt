@@ -10,7 +10,8 @@ use Rattle.dots.specs.declared.Operation.the-variants as operation
 use Rattle.registers.specs.declared.Mode.the-variants as mode
 use Rattle.registers.specs.declared.Transfer.{Transfer}
 use Rattle.registers.specs.declared.Command.{Command}
-use Rattle.registers.specs.declared.Command.the-variants.{Nothing, Reset, Vsync, Cchar, Start, Zoom, Curs, Pram, Pitch, Mask, Figs, Figd, Gchrd, Curd, Lprd, Wdat, Rdat, Unknown}
+use Rattle.registers.specs.declared.Command.the-variants.{Nothing, Reset, Vsync, Cchar, Start, Zoom, Curs, Pram, Pitch, Mask, Figs, Figd}
+use Rattle.registers.specs.declared.Command.the-variants.{Gchrd, Curd, Lprd, Wdat, Rdat, Unknown}
 use Rattle.registers.specs.declared.Work.the-variants.{Idle, Figure, Character, Reading}
 use Rattle.registers.specs.declared.Pen.{Pen}
 use Rattle.registers.specs.declared.Buffer.{Buffer}
@@ -29,7 +30,8 @@ firstOf b = cond (within 0x70 0x7F b) (b % 16) 0
 abbrev pub begun : Command → ℕ → Progress
 begun c b = record { command = c; next = firstOf b; low = 0 }
 
--- "buffer emptied, write mode, figure or read ended where it stands, display off; other registers kept; parameters that follow it load the eight sync bytes"
+-- "buffer emptied, write mode, figure or read ended where it stands, display off; other registers kept; parameters that follow it load the
+-- eight sync bytes"
 unfoldable pub resetDone : Registers → Registers
 resetDone r =
     putProgress (putWork (putBuffer (putMode (putVideo r (putDisplay (r .video) false)) mode.Write) emptyBuffer) Idle) (begun Reset 0)

@@ -26,6 +26,7 @@ module _ (r : Raw) (m : Room) where
   unfolding decodedOf
   rectangles f a b d e = rw (e, f, ne-eqb _ 1 a, ne-eqb _ 2 b, eq-eqb _ 3 d)
 
-  pub glyphs : {q : Decoded} → formB r ≡ true → (r .kind ≡ 1 → ⊥) → (r .kind ≡ 2 → ⊥) → (r .kind ≡ 3 → ⊥) → q ≡ glyphOf r m → q ≡ decodedOf r m
+  pub glyphs : {q : Decoded} → formB r ≡ true → (r .kind ≡ 1 → ⊥) → (r .kind ≡ 2 → ⊥) → (r .kind ≡ 3 → ⊥) → q ≡ glyphOf r m
+      → q ≡ decodedOf r m
   unfolding decodedOf
   glyphs f a b d e = rw (e, f, ne-eqb _ 1 a, ne-eqb _ 2 b, ne-eqb _ 3 d)

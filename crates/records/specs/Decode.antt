@@ -41,11 +41,15 @@ dotOf r m = cond (insideB m (r .x) (r .y)) (good r (Dot (point (r .x) (r .y)))) 
 
 -- "2 line to x1, y1"
 unfoldable pub lineOf : Raw → Room → Decoded
-lineOf r m = cond (insideB m (r .x) (r .y) && insideB m (r .x1) (r .y1)) (good r (Line (point (r .x) (r .y)) (point (r .x1) (r .y1)))) (Refused Outside)
+lineOf r m =
+    cond (insideB m (r .x) (r .y) && insideB m (r .x1) (r .y1)) (good r (Line (point (r .x) (r .y)) (point (r .x1) (r .y1))))
+    (Refused Outside)
 
 -- "3 rectangle to any opposite corner x1, y1"
 unfoldable pub rectOf : Raw → Room → Decoded
-rectOf r m = cond (insideB m (r .x) (r .y) && insideB m (r .x1) (r .y1)) (good r (Rectangle (point (r .x) (r .y)) (point (r .x1) (r .y1)))) (Refused Outside)
+rectOf r m =
+    cond (insideB m (r .x) (r .y) && insideB m (r .x1) (r .y1)) (good r (Rectangle (point (r .x) (r .y)) (point (r .x1) (r .y1))))
+    (Refused Outside)
 
 -- 17, "glyph number": the table has no such glyph
 abbrev pub knownB : Raw → Room → Bool
@@ -62,7 +66,8 @@ fitsB r m = leb (r .x + 8 * r .factor) (m .across) && leb (r .y + 8 * r .factor)
 -- "4 glyph (number, factor 1 to 16, two zeros)"; 17, then 18, then 19
 unfoldable pub glyphOf : Raw → Room → Decoded
 glyphOf r m =
-    cond (knownB r m) (cond (factorB r) (cond (fitsB r m) (good r (Glyph (point (r .x) (r .y)) (r .number) (r .factor))) (Refused Outside)) (Refused Factor))
+    cond (knownB r m) (cond (factorB r) (cond (fitsB r m) (good r (Glyph (point (r .x) (r .y)) (r .number) (r .factor))) (Refused Outside))
+    (Refused Factor))
     (Refused GlyphNumber)
 
 -- 16 before all, then by the kind

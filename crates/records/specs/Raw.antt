@@ -1,4 +1,5 @@
--- 01, Drawing sheets: where a sheet's numbers stand. A byte past the sheet's end reads 0 (no sheet that passes the check of its length is read there).
+-- 01, Drawing sheets: where a sheet's numbers stand. A byte past the sheet's end reads 0 (no sheet that passes the check of its length is
+-- read there).
 use Prim.Native.Nat.{ℕ, _+_, _*_}
 use mathlib.Core.List.{List}
 use lib.ListN.{getD}

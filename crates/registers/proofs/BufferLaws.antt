@@ -1,8 +1,8 @@
 -- The buffer: a pop moves each entry one place on; and the test of the first n entries, one entry on: what is left decides.
-use mathlib.Core.Path.{_≡_, refl, sym, ap, _∙_}
+use mathlib.Core.Path.{_≡_, refl, sym}
 use mathlib.Core.Bool.{Bool, true, false, _&&_}
 use mathlib.Core.List.{List, [], _∷_, _++_}
-use Prim.Native.Nat.{ℕ, zero, suc, _+_, _-_, _≤_, _<_}
+use Prim.Native.Nat.{ℕ, suc, _+_, _-_, _≤_, _<_}
 use native.Mathlib.Omega.{arith}
 use native.Mathlib.Numerals.{add-one}
 use lib.Dec.{ltb, leb}
@@ -30,7 +30,8 @@ module _ (b n : ℕ) (e : List ℕ) where
       let m : n - i ≡ suc (n - (i + 1)) = omega arith in
       rw (m, drop-cons e i 0 h, le-ltb (getD e i 0) b large)
 
-  below-one : (i : ℕ) → i < length e → i < n → getD e i 0 < b → allBelow b (take (n - i) (drop i e)) ≡ allBelow b (take (n - (i + 1)) (drop (i + 1) e))
+  below-one : (i : ℕ) → i < length e → i < n → getD e i 0 < b
+      → allBelow b (take (n - i) (drop i e)) ≡ allBelow b (take (n - (i + 1)) (drop (i + 1) e))
   unfolding allBelow
   below-one i h held small =
       let m : n - i ≡ suc (n - (i + 1)) = omega arith in

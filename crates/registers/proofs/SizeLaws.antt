@@ -1,6 +1,6 @@
 -- A number of 17 bits times a factor of at most 16 fits 32 bits.
 use mathlib.Core.Path.{_≡_}
-use Prim.Native.Nat.{ℕ, _+_, _*_, _%_, _≤_, _<_}
+use Prim.Native.Nat.{ℕ, _*_, _≤_, _<_}
 use native.Mathlib.Nat.{mul-le-mul-left}
 use native.Mathlib.Omega.{arith}
 use Rattle.registers.specs.Size.{factorOf}

@@ -15,37 +15,179 @@ use Rattle.registers.specs.declared.Progress.{Progress}
 use Rattle.registers.specs.declared.Registers.{Registers}
 
 abbrev pub putCursor : Registers → Cursor → Registers
-putCursor r x = record { cursor = x; pitch = r .pitch; drawing = r .drawing; op = r .op; ram = r .ram; video = r .video; pen = r .pen; mode = r .mode; buffer = r .buffer; progress = r .progress; work = r .work }
+putCursor r x =
+    record {
+      cursor = x;
+      pitch = r .pitch;
+      drawing = r .drawing;
+      op = r .op;
+      ram = r .ram;
+      video = r .video;
+      pen = r .pen;
+      mode = r .mode;
+      buffer = r .buffer;
+      progress = r .progress;
+      work = r .work;
+    }
 
 abbrev pub putPitch : Registers → ℕ → Registers
-putPitch r x = record { cursor = r .cursor; pitch = x; drawing = r .drawing; op = r .op; ram = r .ram; video = r .video; pen = r .pen; mode = r .mode; buffer = r .buffer; progress = r .progress; work = r .work }
+putPitch r x =
+    record {
+      cursor = r .cursor;
+      pitch = x;
+      drawing = r .drawing;
+      op = r .op;
+      ram = r .ram;
+      video = r .video;
+      pen = r .pen;
+      mode = r .mode;
+      buffer = r .buffer;
+      progress = r .progress;
+      work = r .work;
+    }
 
 abbrev pub putDrawing : Registers → Drawing → Registers
-putDrawing r x = record { cursor = r .cursor; pitch = r .pitch; drawing = x; op = r .op; ram = r .ram; video = r .video; pen = r .pen; mode = r .mode; buffer = r .buffer; progress = r .progress; work = r .work }
+putDrawing r x =
+    record {
+      cursor = r .cursor;
+      pitch = r .pitch;
+      drawing = x;
+      op = r .op;
+      ram = r .ram;
+      video = r .video;
+      pen = r .pen;
+      mode = r .mode;
+      buffer = r .buffer;
+      progress = r .progress;
+      work = r .work;
+    }
 
 abbrev pub putOp : Registers → Operation → Registers
-putOp r x = record { cursor = r .cursor; pitch = r .pitch; drawing = r .drawing; op = x; ram = r .ram; video = r .video; pen = r .pen; mode = r .mode; buffer = r .buffer; progress = r .progress; work = r .work }
+putOp r x = record {
+  cursor = r .cursor;
+  pitch = r .pitch;
+  drawing = r .drawing;
+  op = x;
+  ram = r .ram;
+  video = r .video;
+  pen = r .pen;
+  mode = r .mode;
+  buffer = r .buffer;
+  progress = r .progress;
+  work = r .work;
+}
 
 abbrev pub putRam : Registers → List ℕ → Registers
-putRam r x = record { cursor = r .cursor; pitch = r .pitch; drawing = r .drawing; op = r .op; ram = x; video = r .video; pen = r .pen; mode = r .mode; buffer = r .buffer; progress = r .progress; work = r .work }
+putRam r x =
+    record {
+      cursor = r .cursor;
+      pitch = r .pitch;
+      drawing = r .drawing;
+      op = r .op;
+      ram = x;
+      video = r .video;
+      pen = r .pen;
+      mode = r .mode;
+      buffer = r .buffer;
+      progress = r .progress;
+      work = r .work;
+    }
 
 abbrev pub putVideo : Registers → Video → Registers
-putVideo r x = record { cursor = r .cursor; pitch = r .pitch; drawing = r .drawing; op = r .op; ram = r .ram; video = x; pen = r .pen; mode = r .mode; buffer = r .buffer; progress = r .progress; work = r .work }
+putVideo r x =
+    record {
+      cursor = r .cursor;
+      pitch = r .pitch;
+      drawing = r .drawing;
+      op = r .op;
+      ram = r .ram;
+      video = x;
+      pen = r .pen;
+      mode = r .mode;
+      buffer = r .buffer;
+      progress = r .progress;
+      work = r .work;
+    }
 
 abbrev pub putPen : Registers → Pen → Registers
-putPen r x = record { cursor = r .cursor; pitch = r .pitch; drawing = r .drawing; op = r .op; ram = r .ram; video = r .video; pen = x; mode = r .mode; buffer = r .buffer; progress = r .progress; work = r .work }
+putPen r x =
+    record {
+      cursor = r .cursor;
+      pitch = r .pitch;
+      drawing = r .drawing;
+      op = r .op;
+      ram = r .ram;
+      video = r .video;
+      pen = x;
+      mode = r .mode;
+      buffer = r .buffer;
+      progress = r .progress;
+      work = r .work;
+    }
 
 abbrev pub putMode : Registers → Mode → Registers
-putMode r x = record { cursor = r .cursor; pitch = r .pitch; drawing = r .drawing; op = r .op; ram = r .ram; video = r .video; pen = r .pen; mode = x; buffer = r .buffer; progress = r .progress; work = r .work }
+putMode r x =
+    record {
+      cursor = r .cursor;
+      pitch = r .pitch;
+      drawing = r .drawing;
+      op = r .op;
+      ram = r .ram;
+      video = r .video;
+      pen = r .pen;
+      mode = x;
+      buffer = r .buffer;
+      progress = r .progress;
+      work = r .work;
+    }
 
 abbrev pub putBuffer : Registers → Buffer → Registers
-putBuffer r x = record { cursor = r .cursor; pitch = r .pitch; drawing = r .drawing; op = r .op; ram = r .ram; video = r .video; pen = r .pen; mode = r .mode; buffer = x; progress = r .progress; work = r .work }
+putBuffer r x =
+    record {
+      cursor = r .cursor;
+      pitch = r .pitch;
+      drawing = r .drawing;
+      op = r .op;
+      ram = r .ram;
+      video = r .video;
+      pen = r .pen;
+      mode = r .mode;
+      buffer = x;
+      progress = r .progress;
+      work = r .work;
+    }
 
 abbrev pub putProgress : Registers → Progress → Registers
-putProgress r x = record { cursor = r .cursor; pitch = r .pitch; drawing = r .drawing; op = r .op; ram = r .ram; video = r .video; pen = r .pen; mode = r .mode; buffer = r .buffer; progress = x; work = r .work }
+putProgress r x =
+    record {
+      cursor = r .cursor;
+      pitch = r .pitch;
+      drawing = r .drawing;
+      op = r .op;
+      ram = r .ram;
+      video = r .video;
+      pen = r .pen;
+      mode = r .mode;
+      buffer = r .buffer;
+      progress = x;
+      work = r .work;
+    }
 
 abbrev pub putWork : Registers → Work → Registers
-putWork r x = record { cursor = r .cursor; pitch = r .pitch; drawing = r .drawing; op = r .op; ram = r .ram; video = r .video; pen = r .pen; mode = r .mode; buffer = r .buffer; progress = r .progress; work = x }
+putWork r x =
+    record {
+      cursor = r .cursor;
+      pitch = r .pitch;
+      drawing = r .drawing;
+      op = r .op;
+      ram = r .ram;
+      video = r .video;
+      pen = r .pen;
+      mode = r .mode;
+      buffer = r .buffer;
+      progress = r .progress;
+      work = x;
+    }
 
 -- .. one of its bytes or bits for the screen
 abbrev pub putZoom : Video → ℕ → Video

@@ -2,7 +2,6 @@
 use Prim.Native.Nat.{ℕ, _+_, _-_}
 use mathlib.Core.Path.{_≡_, sym, _∙_}
 use mathlib.Core.List.{List}
-use lib.Dec.{eqb}
 use lib.ListN.{length, take, drop, length-drop}
 use lib.Seq.{take-all}
 use native.Mathlib.Omega.{arith}
@@ -17,7 +16,8 @@ pub to-end : (n : ℕ) (s : List ℕ) → take (length s - n) (drop n s) ≡ dro
 to-end n s = take-all (length s - n) (drop n s) (omega (arith, length-drop n s))
 
 module _ (letter : ℕ) (s : List ℕ) where
-  pub fields-one : {e : ℕ} {a : Number} {r : Line} → e ≡ spanOf s → e ≡ length s → a ≡ numberOf s → r ≡ oneOf letter a → r ≡ fieldsOf letter s
+  pub fields-one : {e : ℕ} {a : Number} {r : Line} → e ≡ spanOf s → e ≡ length s → a ≡ numberOf s → r ≡ oneOf letter a
+      → r ≡ fieldsOf letter s
   unfolding fieldsOf
   fields-one p q f g = rw (g, f, eq-eqb (spanOf s) (length s) (sym p ∙ q))
 

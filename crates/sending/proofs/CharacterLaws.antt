@@ -65,7 +65,8 @@ module _ (r : Registers) (m : List ℕ) (some : 0 < columnsOf (r .drawing) (r .v
 
   upward : (i : ℕ) → i % w + 1 ≡ w → i / w + 1 < rows → unitDone (here i) ≡ here (suc i)
   unfolding unitDone characterUnit characterMoved nextStart cycles spot walk
-  upward i h k = rw (le-ltb (i % w + 1) w (omega arith), lt-ltb (i / w + 1) rows k, row-end-mod w i some h, row-end-div w i some h, add-one (i / w))
+  upward i h k =
+      rw (le-ltb (i % w + 1) w (omega arith), lt-ltb (i / w + 1) rows k, row-end-mod w i some h, row-end-div w i some h, add-one (i / w))
 
   ends : (i : ℕ) → i % w + 1 ≡ w → rows ≤ i / w + 1 → unitDone (here i) ≡ finished i
   unfolding unitDone characterUnit characterMoved cycles
@@ -124,7 +125,8 @@ module _ {q : Registers} (v : Waiting q) (some : 0 < columnsOf (q .drawing) (q .
   done : (m : List ℕ) → unitsDone (suc n) (takenBy 0x168 q m) ≡ finished (gchrd q) m some n
   done m = reaches m (suc n) ∙ whole (gchrd q) m some n all
 
-  pub gchrd-draws : (m : List ℕ) → lengthB (length m) ≡ true → n + 2 < fullBudget → Leads (state q m) (0x168 ∷ []) (suc n) (finished (gchrd q) m some n)
+  pub gchrd-draws : (m : List ℕ) → lengthB (length m) ≡ true → n + 2 < fullBudget
+      → Leads (state q m) (0x168 ∷ []) (suc n) (finished (gchrd q) m some n)
   unfolding reasonOf
   gchrd-draws m long few =
       subst (Leads (state q m) (0x168 ∷ []) (suc n)) (done m)

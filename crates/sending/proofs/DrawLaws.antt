@@ -85,7 +85,8 @@ module _ {q : Registers} (v : Waiting q) (n : ℕ) (all : suc n ≡ dotsOf (q .d
   done : (m : List ℕ) → unitsDone (suc n) (takenBy 0x16C q m) ≡ ended (figd q) m n
   done m = reaches m (suc n) ∙ whole (figd q) m n all
 
-  pub figd-draws : (m : List ℕ) → lengthB (length m) ≡ true → n + 2 < fullBudget → Leads (state q m) (0x16C ∷ []) (suc n) (ended (figd q) m n)
+  pub figd-draws : (m : List ℕ) → lengthB (length m) ≡ true → n + 2 < fullBudget
+      → Leads (state q m) (0x16C ∷ []) (suc n) (ended (figd q) m n)
   unfolding reasonOf
   figd-draws m long few =
       subst (Leads (state q m) (0x16C ∷ []) (suc n)) (done m)

@@ -61,17 +61,20 @@ module _ {r : Registers} (v : Waiting r) where
 -- ---- parameter bytes
 -- one parameter of the command c
 module _ {r : Registers} (v : Waiting r) (b : ℕ) (byte : b < 256) (i : ℕ) (few : i < 16) where
-  as-parameter : (c : Command) → r .progress ≡ progress c i → (m : List ℕ) → takenBy b r m ≡ parameterBy c i b (putProgress (drained r) (progress c (i + 1))) m
+  as-parameter : (c : Command) → r .progress ≡ progress c i → (m : List ℕ)
+      → takenBy b r m ≡ parameterBy c i b (putProgress (drained r) (progress c (i + 1))) m
   unfolding entryTaken parameterTaken nextOf
   as-parameter c e m =
       rw (lt-ltb b 256 byte)
       (ap (λ (p : Progress). parameterBy (p .command) (p .next) b (putProgress (drained r) (counted p)) m) e
       ∙ ap (λ (t : Bool). parameterBy c i b (putProgress (drained r) (progress c (cond t (i + 1) 16))) m) (lt-ltb i 16 few))
 
-  pub curs-byte : r .progress ≡ progress Curs i → Acts r (b ∷ []) (putProgress (putCursor (drained r) (cursBy i b (r .cursor))) (progress Curs (i + 1)))
+  pub curs-byte : r .progress ≡ progress Curs i → Acts r (b ∷ [])
+      (putProgress (putCursor (drained r) (cursBy i b (r .cursor))) (progress Curs (i + 1)))
   curs-byte e = acts-one v (omega arith) (λ q. omega arith) (as-parameter Curs e) refl refl refl
 
-  pub pram-byte : r .progress ≡ progress Pram i → Acts r (b ∷ []) (putProgress (putRam (drained r) (set (r .ram) i b)) (progress Pram (i + 1)))
+  pub pram-byte : r .progress ≡ progress Pram i → Acts r (b ∷ [])
+      (putProgress (putRam (drained r) (set (r .ram) i b)) (progress Pram (i + 1)))
   unfolding ramBy
   pram-byte e =
       acts-one v (omega arith) (λ q. omega arith)
@@ -81,7 +84,8 @@ module _ {r : Registers} (v : Waiting r) (b : ℕ) (byte : b < 256) (i : ℕ) (f
       next : Registers
       next = putProgress (drained r) (progress Pram (i + 1))
 
-  pub figs-byte : r .progress ≡ progress Figs i → Acts r (b ∷ []) (putProgress (putDrawing (drained r) (figsBy i b (r .drawing))) (progress Figs (i + 1)))
+  pub figs-byte : r .progress ≡ progress Figs i → Acts r (b ∷ [])
+      (putProgress (putDrawing (drained r) (figsBy i b (r .drawing))) (progress Figs (i + 1)))
   figs-byte e = acts-one v (omega arith) (λ q. omega arith) (as-parameter Figs e) refl refl refl
 
 -- the one parameter of PITCH, and of ZOOM
@@ -90,6 +94,7 @@ module _ {r : Registers} (v : Waiting r) (b : ℕ) (byte : b < 256) where
   unfolding pitchBy
   pitch-byte e = acts-one v (omega arith) (λ q. omega arith) (as-parameter v b byte 0 (omega arith) Pitch e) refl refl refl
 
-  pub zoom-byte : r .progress ≡ progress Zoom 0 → Acts r (b ∷ []) (putProgress (putVideo (drained r) (putZoom (r .video) b)) (progress Zoom 1))
+  pub zoom-byte : r .progress ≡ progress Zoom 0 → Acts r (b ∷ [])
+      (putProgress (putVideo (drained r) (putZoom (r .video) b)) (progress Zoom 1))
   unfolding zoomBy
   zoom-byte e = acts-one v (omega arith) (λ q. omega arith) (as-parameter v b byte 0 (omega arith) Zoom e) refl refl refl

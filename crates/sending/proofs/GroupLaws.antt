@@ -14,11 +14,13 @@ use Rattle.registers.specs.declared.Command.the-variants.{Zoom, Curs, Pram, Pit
 use Rattle.registers.specs.declared.Drawing.{Drawing}
 use Rattle.registers.specs.declared.Registers.{Registers}
 use Rattle.registers.specs.Fresh.{freshDrawing}
-use Rattle.registers.specs.Put.{putCursor, putPitch, putDrawing, putRam, putVideo, putProgress, putZoom, putGd, putKind, putDir, putDc, putD, putD2, putD1, putDm}
+use Rattle.registers.specs.Put.{putCursor, putPitch, putDrawing, putRam, putVideo, putProgress, putZoom, putGd, putKind, putDir, putDc}
+use Rattle.registers.specs.Put.{putD, putD2, putD1, putDm}
 use Rattle.processor.specs.Parameter.{lowByte, highSix, cursBy, figsBy}
 use Rattle.sending.proofs.WaitLaws.{Waiting, drained}
 use Rattle.sending.proofs.SendLaws.{Acts, acts-then}
-use Rattle.sending.proofs.EntryLaws.{progress, pitch-command, zoom-command, curs-command, pram-command, figs-command, curs-byte, pram-byte, figs-byte, pitch-byte, zoom-byte}
+use Rattle.sending.proofs.EntryLaws.{progress, pitch-command, zoom-command, curs-command, pram-command, figs-command, curs-byte}
+use Rattle.sending.proofs.EntryLaws.{pram-byte, figs-byte, pitch-byte, zoom-byte}
 
 pub acts-as : {r q q′ : Registers} {l : List ℕ} → Acts r l q → q ≡ q′ → Acts r l q′
 acts-as {r} {q} {q′} {l} a e = subst (Acts r l) e a
@@ -43,7 +45,13 @@ three-bytes : (q : Cursor) (e x : ℕ) → e < 262144
     → cursBy 2 (x % 16 * 16 + e / 65536 % 4) (cursBy 1 (e / 256 % 256) (cursBy 0 (e % 256) q)) ≡ record { ead = e; mask = 2 ^ (x % 16) }
 unfolding cursBy
 three-bytes q e x h =
-    rw (low-byte (q .ead) (e % 256) (omega arith), low-word (q .ead / 256 * 256 + e % 256) (e % 256) (e / 256 % 256) (omega arith) (omega arith), top-bits x e, dot-bits x e, joined e h)
+    rw (
+      low-byte (q .ead) (e % 256) (omega arith),
+      low-word (q .ead / 256 * 256 + e % 256) (e % 256) (e / 256 % 256) (omega arith) (omega arith),
+      top-bits x e,
+      dot-bits x e,
+      joined e h,
+    )
 
 module _ {r : Registers} (v : Waiting r) where
   pub acts-pitch : (p : ℕ) → p < 256 → Acts r (0x147 ∷ p ∷ []) (putProgress (putPitch (drained r) p) (progress Pitch 1))
@@ -72,7 +80,8 @@ module _ {r : Registers} (v : Waiting r) where
       acts-then a (acts-then b (pram-byte (b .waits) 255 (omega arith) 9 (omega arith) refl))
 
   -- .. and with eight bytes
-  module _ (a b c d e f g h : ℕ) (ha : a < 256) (hb : b < 256) (hc : c < 256) (hd : d < 256) (he : e < 256) (hf : f < 256) (hg : g < 256) (hh : h < 256) where
+  module _ (a b c d e f g h : ℕ) (ha : a < 256) (hb : b < 256) (hc : c < 256) (hd : d < 256) (he : e < 256) (hf : f < 256) (hg : g < 256)
+      (hh : h < 256) where
     pub acts-rows : Acts r (0x178 ∷ a ∷ b ∷ c ∷ d ∷ e ∷ f ∷ g ∷ h ∷ [])
         (putProgress (putRam (drained r) (sets (r .ram) 8 (a ∷ b ∷ c ∷ d ∷ e ∷ f ∷ g ∷ h ∷ []))) (progress Pram 16))
     acts-rows =
@@ -110,7 +119,8 @@ module _ {r : Registers} (v : Waiting r) where
       (ap₂ (λ (x y : ℕ). drawingSet r (putDir (putKind (freshDrawing (r .drawing)) x) y) 1) k d)
 
   module _ (n : ℕ) (small : n < 16384) where
-    number : (i : ℕ) → i < 15 → r .progress ≡ progress Figs i → (f : Drawing) → figsBy (i + 1) (n / 256 % 256) (figsBy i (n % 256) (r .drawing)) ≡ f
+    number : (i : ℕ) → i < 15 → r .progress ≡ progress Figs i → (f : Drawing)
+        → figsBy (i + 1) (n / 256 % 256) (figsBy i (n % 256) (r .drawing)) ≡ f
         → Acts r ((n % 256) ∷ (n / 256 % 256) ∷ []) (drawingSet r f (i + 2))
     number i h e f is =
         let a = figs-byte v (n % 256) (omega arith) i (omega arith) e in
@@ -118,7 +128,8 @@ module _ {r : Registers} (v : Waiting r) where
         acts-as (acts-then a (figs-byte (a .waits) (n / 256 % 256) (omega arith) (i + 1) (omega arith) refl))
         (ap₂ (λ (g : Drawing) (k : ℕ). drawingSet r g k) is j)
 
-    pub sends-dc : r .progress ≡ progress Figs 1 → Acts r ((n % 256) ∷ (n / 256 % 256) ∷ []) (drawingSet r (putGd (putDc (r .drawing) n) false) 3)
+    pub sends-dc : r .progress ≡ progress Figs 1 → Acts r ((n % 256) ∷ (n / 256 % 256) ∷ [])
+        (drawingSet r (putGd (putDc (r .drawing) n) false) 3)
     unfolding figsBy
     sends-dc e =
         number 1 (omega arith) e (putGd (putDc (r .drawing) n) false)

@@ -116,7 +116,8 @@ module _ (r : Registers) (m : List ℕ) (e : ℕ) (v : Waiting r) (small : e < 5
   abbrev reached : ℕ → State
   reached n = unitsDone n (takenBy e r m)
 
-  module _ (long : lengthB (length m) ≡ true) (n : ℕ) (busy : (i : ℕ) → i < n → reasonOf (reached i .regs) ≡ 0) (idle : reasonOf (reached n .regs) ≡ 2)
+  module _ (long : lengthB (length m) ≡ true) (n : ℕ) (busy : (i : ℕ) → i < n → reasonOf (reached i .regs) ≡ 0)
+      (idle : reasonOf (reached n .regs) ≡ 2)
       (few : n + 1 < fullBudget) where
     run-is : runDone fullBudget loaded ≡ stopped (reached n) (suc n) 2
     unfolding runDone unitsDone
@@ -158,12 +159,18 @@ pub acts-one : {r q : Registers} {e : ℕ} → Waiting r → e < 512 → (e ≡ 
 unfolding unitsDone
 acts-one {r} {q} {e} v small other is mode work buffer = record {
   leads = λ m long. subst (Leads (state r m) (e ∷ []) 0) (is m)
-      (leads-one r m e v small other long 0 (λ i h. absurd (omega arith)) (ap (λ (s : State). reasonOf (s .regs)) (is m) ∙ waiting-reason q waits) (omega arith));
+      (leads-one r m e v small other long 0 (λ i h. absurd (omega arith))
+      (ap (λ (s : State). reasonOf (s .regs)) (is m) ∙ waiting-reason q waits) (omega arith));
   waits = waits;
 }
   where
     waits : Waiting q
-    waits = record { lawful = units-lawful v e 0 (is []); mode = mode ∙ v .mode; idle = work ∙ v .idle; empty = ap (λ (b : Buffer). b .count) buffer }
+    waits = record {
+      lawful = units-lawful v e 0 (is []);
+      mode = mode ∙ v .mode;
+      idle = work ∙ v .idle;
+      empty = ap (λ (b : Buffer). b .count) buffer;
+    }
 
 pub acts-then : {r q s : Registers} {a b : List ℕ} → Acts r a q → Acts q b s → Acts r (a ++ b) s
 acts-then u v = record { leads = λ m long. leads-then (u .leads m long) (v .leads m long); waits = v .waits }

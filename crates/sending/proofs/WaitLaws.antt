@@ -53,7 +53,8 @@ module _ {r : Registers} (v : Waiting r) (e : ℕ) where
 
   pub queued-sound : e < 512 → soundB (queued r e) ≡ true
   queued-sound h =
-      lawful-sound (queued r e) (buffer-kept r (v .lawful) (pushed (r .buffer) e) (pushed-queue (r .mode) (r .buffer) (v .lawful .buffer) e (rw (v .mode) h)))
+      lawful-sound (queued r e) (buffer-kept r (v .lawful) (pushed (r .buffer) e)
+      (pushed-queue (r .mode) (r .buffer) (v .lawful .buffer) e (rw (v .mode) h)))
 
   -- n units after the entry was taken
   pub units-lawful : (n : ℕ) {s : State} → unitsDone n (takenBy e r []) ≡ s → Lawful (s .regs)
@@ -61,5 +62,9 @@ module _ {r : Registers} (v : Waiting r) (e : ℕ) where
       subst (λ (s : State). Lawful (s .regs)) is
       (units-kept 0 n (takenBy e r [])
       (entry-kept 0 e (state (drained r) [])
-      (record { regs = buffer-kept r (v .lawful) emptyBuffer (empty-queue (r .mode)); words = record { below = λ j. omega arith }; long = refl })
+      (record {
+        regs = buffer-kept r (v .lawful) emptyBuffer (empty-queue (r .mode));
+        words = record { below = λ j. omega arith };
+        long = refl;
+      })
       (v .idle) (v .mode)) .regs)

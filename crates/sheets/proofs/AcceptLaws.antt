@@ -1,4 +1,5 @@
--- A sheet is accepted where 01's conditions hold, and only there: each block has its check and its heading, each record of a block's count stands for a
+-- A sheet is accepted where 01's conditions hold, and only there: each block has its check and its heading, each record of a block's count
+-- stands for a
 -- figure. True because the first refusal over the blocks, and over the slots, is none just where no place has one.
 use mathlib.Core.Path.{_≡_, refl}
 use mathlib.Core.Bool.{Bool, true, false, cond, _&&_}
@@ -61,9 +62,11 @@ module _ (s : List ℕ) (p h : ℕ) (t : List ℕ) where
     unfolding recordsChecked slotRefusal
     records-none =
         first-none (slotAnswer s m) (50 * n) 0
-        (λ k l u. used-zero (usedB s k) (numberOf (decodedAt s (placeOf k) m)) (λ e. w .records (k / 50) (k % 50) (omega arith) (ltb-true (k % 50) (countOf s (k / 50)) e)))
+        (λ k l u. used-zero (usedB s k) (numberOf (decodedAt s (placeOf k) m))
+        (λ e. w .records (k / 50) (k % 50) (omega arith) (ltb-true (k % 50) (countOf s (k / 50)) e)))
 
-    pub accepts : (o : List ℕ) → length all ≤ length o → translateDef s p h t o ≡ outcome (answer 0 (length all) 0) (all ++ drop (length all) o)
+    pub accepts : (o : List ℕ) → length all ≤ length o
+        → translateDef s p h t o ≡ outcome (answer 0 (length all) 0) (all ++ drop (length all) o)
     unfolding translateDef answerOf
     accepts o l = rw (frame-none, blocks-none, records-none, le-ltb (length o) (length all) l)
 
@@ -94,7 +97,8 @@ module _ (s : List ℕ) (p h : ℕ) (t : List ℕ) where
         let c : countOf s b ≤ 50 = count-small b l in
         let d : (50 * b + i) / 50 ≡ b = omega arith in
         let r : (50 * b + i) % 50 ≡ i = omega arith in
-        let q : slotAnswer s m (50 * b + i) .number ≡ 0 = first-all (slotAnswer s m) (50 * n) 0 (means .records) (50 * b + i) (omega arith) (omega arith) in
+        let q : slotAnswer s m (50 * b + i) .number ≡ 0 =
+        first-all (slotAnswer s m) (50 * n) 0 (means .records) (50 * b + i) (omega arith) (omega arith) in
         rw (d, r, lt-ltb i (countOf s b) u) at q
 
     pub accepted-only : Lawful s p h t

@@ -1,4 +1,5 @@
--- Every figure of a sheet lies in the plane, whatever else is refused. True because the decoder makes a figure only where it has tested its dots, and a
+-- Every figure of a sheet lies in the plane, whatever else is refused. True because the decoder makes a figure only where it has tested its
+-- dots, and a
 -- record that is refused has no figure.
 use Prim.Native.Nat.{ℕ, zero, suc, _+_, _*_, _<_, _≤_}
 use mathlib.Core.Path.{_≡_, refl}
@@ -38,7 +39,8 @@ inside : (m : Room) (x y : ℕ) → insideB m x y ≡ true → (x < m .across) �
 inside m x y e = let w = and-both (ltb x (m .across)) (ltb y (m .down)) e in (ltb-true _ _ (w .0), ltb-true _ _ (w .1))
 
 module _ (r : Raw) (m : Room) where
-  four : (insideB m (r .x) (r .y) && insideB m (r .x1) (r .y1)) ≡ true → (r .x < m .across) × (r .y < m .down) × (r .x1 < m .across) × (r .y1 < m .down)
+  four : (insideB m (r .x) (r .y) && insideB m (r .x1) (r .y1)) ≡ true
+      → (r .x < m .across) × (r .y < m .down) × (r .x1 < m .across) × (r .y1 < m .down)
   four e =
       let w = and-both (insideB m (r .x) (r .y)) (insideB m (r .x1) (r .y1)) e in
       let a = inside m (r .x) (r .y) (w .0) in
@@ -73,7 +75,8 @@ module _ (r : Raw) (m : Room) where
   ok-decoded =
       cases (Ok m) (formB r)
       (λ e. cases (Ok m) (eqb (r .kind) 1) (λ g. ok-dot)
-      (λ g. cases (Ok m) (eqb (r .kind) 2) (λ k. ok-line) (λ k. cases (Ok m) (eqb (r .kind) 3) (λ l. ok-rectangle) (λ l. ok-glyph)))) (λ e. tt)
+      (λ g. cases (Ok m) (eqb (r .kind) 2) (λ k. ok-line) (λ k. cases (Ok m) (eqb (r .kind) 3) (λ l. ok-rectangle) (λ l. ok-glyph))))
+      (λ e. tt)
 
 -- ---- all records
 abbrev pub AllCorners : Room → List Record → Type 0
@@ -91,7 +94,8 @@ in-decoded m (Refused w) o = tt
 module _ (s : List ℕ) (m : Room) where
   slot-corners : (k : ℕ) → AllCorners m (slotFigures s m k)
   unfolding slotFigures decodedAt
-  slot-corners k = cases (AllCorners m) (usedB s k) (λ e. in-decoded m (decodedAt s (placeOf k) m) (ok-decoded (rawAt s (placeOf k)) m)) (λ e. tt)
+  slot-corners k =
+      cases (AllCorners m) (usedB s k) (λ e. in-decoded m (decodedAt s (placeOf k) m) (ok-decoded (rawAt s (placeOf k)) m)) (λ e. tt)
 
   from-corners : (f k : ℕ) → AllCorners m (figuresFrom s m f k)
   unfolding figuresFrom

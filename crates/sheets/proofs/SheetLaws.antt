@@ -1,4 +1,5 @@
--- One law for each way out of `translate`, and what its answer 0 means. True because the checks of the code run in the definition's order, so that each
+-- One law for each way out of `translate`, and what its answer 0 means. True because the checks of the code run in the definition's order,
+-- so that each
 -- way's tests decide each `orElse` of `answerOf`.
 use mathlib.Core.Path.{_≡_, refl, sym, ap, subst, _∙_}
 use mathlib.Core.Bool.{Bool, true, false, cond, _&&_, false≢true}
@@ -16,7 +17,8 @@ use Rattle.blocks.proofs.AnswerLaws.{or-first, or-next, or-zero}
 use Rattle.entries.specs.Entries.{placed}
 use Rattle.entries.proofs.PutLaws.{placed-is}
 use Rattle.sheets.specs.Slots.{sized, figures, recordsChecked, translation}
-use Rattle.sheets.specs.Sheet.{planeB, tableB, lengthB, frameRefusal, roomOf, figuresOf, ended, answerOf, Outcome, outcome, written, translateDef}
+use Rattle.sheets.specs.Sheet.{planeB, tableB, lengthB, frameRefusal, roomOf, figuresOf, ended, answerOf, Outcome, outcome, written}
+use Rattle.sheets.specs.Sheet.{translateDef}
 use Rattle.sheets.proofs.SlotLaws.{translation-length}
 
 -- ---- the plane, the table and the length are right where nothing is refused
@@ -89,16 +91,20 @@ module _ (s : List ℕ) (p h : ℕ) (t o : List ℕ) where
   unfolding translateDef
   refused {a} e z = rw (← e, ne-eqb (a .number) 0 z)
 
-  done : {a : Answer} {o′ : List ℕ} → a ≡ answerOf s p h t (length o) → a .number ≡ 0 → o′ ≡ all ++ drop (length all) o → outcome a o′ ≡ translateDef s p h t o
+  done : {a : Answer} {o′ : List ℕ} → a ≡ answerOf s p h t (length o) → a .number ≡ 0 → o′ ≡ all ++ drop (length all) o
+      → outcome a o′ ≡ translateDef s p h t o
   unfolding translateDef
   done {a} e z q = rw (← e, eq-eqb (a .number) 0 z, q)
 
   module _ {f : ℕ} (fe : f ≡ frameRefusal p h (length t) (length s)) where
     pub way-frame : (f ≡ 0 → ⊥) → outcome (answer f 0 0) o ≡ translateDef s p h t o
     unfolding answerOf
-    way-frame z = refused (sym (or-first (answer (frameRefusal p h (length t) (length s)) 0 0) _ (rw fe at z) ∙ ap (λ (x : ℕ). answer x 0 0) (sym fe))) z
+    way-frame z =
+        refused (sym (or-first (answer (frameRefusal p h (length t) (length s)) 0 0) _ (rw fe at z)
+        ∙ ap (λ (x : ℕ). answer x 0 0) (sym fe))) z
 
-    module _ (fz : f ≡ 0) {b r c : Answer} (be : b ≡ blocksChecked s n) (re : r ≡ orElse (recordsChecked s m n) (answer 0 (2 + sized (figures s m n)) 0))
+    module _ (fz : f ≡ 0) {b r c : Answer} (be : b ≡ blocksChecked s n)
+        (re : r ≡ orElse (recordsChecked s m n) (answer 0 (2 + sized (figures s m n)) 0))
         (ce : c ≡ orElse b r) where
       past : answerOf s p h t (length o) ≡ orElse (blocksChecked s n) (orElse (recordsChecked s m n) last)
       unfolding answerOf
@@ -108,7 +114,9 @@ module _ (s : List ℕ) (p h : ℕ) (t o : List ℕ) where
       met = rw (← be, ← re) ce
 
       pub way-checked : (c .number ≡ 0 → ⊥) → outcome c o ≡ translateDef s p h t o
-      way-checked z = refused (met ∙ or-refused (blocksChecked s n) (recordsChecked s m n) (answer 0 (2 + sized (figures s m n)) 0) last refl (rw met at z) ∙ sym past) z
+      way-checked z =
+          refused (met ∙ or-refused (blocksChecked s n) (recordsChecked s m n) (answer 0 (2 + sized (figures s m n)) 0) last refl
+          (rw met at z) ∙ sym past) z
 
       module _ (cz : c .number ≡ 0) where
         clear : (blocksChecked s n .number ≡ 0) × (recordsChecked s m n .number ≡ 0) × (c ≡ answer 0 (2 + sized (figures s m n)) 0)
@@ -135,7 +143,8 @@ module _ (s : List ℕ) (p h : ℕ) (t o : List ℕ) where
 ended-zero : (e l : ℕ) → ended e l .number ≡ 0 → (e ≤ l) × (ended e l ≡ answer 0 e 0)
 ended-zero e l z = go (ltb l e) refl z
   where
-    go : (w : Bool) → ltb l e ≡ w → cond w (answer 20 e 0) (answer 0 e 0) .number ≡ 0 → (e ≤ l) × (cond w (answer 20 e 0) (answer 0 e 0) ≡ answer 0 e 0)
+    go : (w : Bool) → ltb l e ≡ w → cond w (answer 20 e 0) (answer 0 e 0) .number ≡ 0
+        → (e ≤ l) × (cond w (answer 20 e 0) (answer 0 e 0) ≡ answer 0 e 0)
     go true q k = absurd (omega arith)
     go false q k = (ltb-false l e q, refl)
 
@@ -148,7 +157,8 @@ pub record Translated (s : List ℕ) (p h : ℕ) (t o : List ℕ) (a : Answer) (
   pub fits : a .first ≤ length o
   pub out : o′ ≡ placed o 0 (translation t p (figuresOf s p h t))
 
-pub translated-means : (s : List ℕ) (p h : ℕ) (t o : List ℕ) {a : Answer} {o′ : List ℕ} → outcome a o′ ≡ translateDef s p h t o → a .number ≡ 0
+pub translated-means : (s : List ℕ) (p h : ℕ) (t o : List ℕ) {a : Answer} {o′ : List ℕ} → outcome a o′ ≡ translateDef s p h t o
+    → a .number ≡ 0
     → Translated s p h t o a o′
 unfolding translateDef answerOf
 translated-means s p h t o {a} e z =
@@ -156,8 +166,10 @@ translated-means s p h t o {a} e z =
     let nz : answerOf s p h t (length o) .number ≡ 0 = sym (ap (λ (x : Answer). x .number) ae) ∙ z in
     let u = or-zero (answer (frameRefusal p h (length t) (length s)) 0 0) _ nz in
     let v = or-zero (blocksChecked s (length s / 512)) _ (sym (ap (λ (x : Answer). x .number) (u .1)) ∙ nz) in
-    let w = or-zero (recordsChecked s (roomOf p h (length t)) (length s / 512)) _ (sym (ap (λ (x : Answer). x .number) (u .1 ∙ v .1)) ∙ nz) in
-    let k = ended-zero (length (translation t p (figuresOf s p h t))) (length o) (sym (ap (λ (x : Answer). x .number) (u .1 ∙ v .1 ∙ w .1)) ∙ nz) in
+    let w = or-zero (recordsChecked s (roomOf p h (length t)) (length s / 512)) _ (sym (ap (λ (x : Answer). x .number) (u .1 ∙ v .1))
+    ∙ nz) in
+    let k = ended-zero (length (translation t p (figuresOf s p h t))) (length o)
+    (sym (ap (λ (x : Answer). x .number) (u .1 ∙ v .1 ∙ w .1)) ∙ nz) in
     let r : a .first ≡ length (translation t p (figuresOf s p h t)) = ap (λ (x : Answer). x .first) (ae ∙ u .1 ∙ v .1 ∙ w .1 ∙ k .1) in
     record {
       framing = u .0;
@@ -172,6 +184,7 @@ translated-means s p h t o {a} e z =
     }
 
 -- two allowed answers are equal, and so are the outputs
-pub only : (s : List ℕ) (p h : ℕ) (t o : List ℕ) {a b : Answer} {u v : List ℕ} → outcome a u ≡ translateDef s p h t o → outcome b v ≡ translateDef s p h t o
+pub only : (s : List ℕ) (p h : ℕ) (t o : List ℕ) {a b : Answer} {u v : List ℕ} → outcome a u ≡ translateDef s p h t o
+    → outcome b v ≡ translateDef s p h t o
     → (a ≡ b) × (u ≡ v)
 only s p h t o e f = (ap (λ (x : Outcome). x .answer) (e ∙ sym f), ap (λ (x : Outcome). x .out) (e ∙ sym f))

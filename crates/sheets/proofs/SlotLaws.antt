@@ -1,4 +1,5 @@
--- One law for each way out of a slot, and for each turn of the two passes over the slots: what is left to do, with what is done, is the whole. True because
+-- One law for each way out of a slot, and for each turn of the two passes over the slots: what is left to do, with what is done, is the
+-- whole. True because
 -- each definition takes one slot where a loop takes one turn.
 use mathlib.Core.Path.{_≡_, refl, sym, ap, _∙_}
 use mathlib.Core.Bool.{Bool, true, false, cond}
@@ -21,7 +22,8 @@ use Rattle.blocks.proofs.AnswerLaws.{or-first, first-start, first-stop, first-g
 use Rattle.entries.specs.Entries.{placed, plain, figureSize, sizeOf, entriesOf}
 use Rattle.entries.proofs.PutLaws.{entries-size, placed-append}
 use Rattle.sheets.specs.declared.Measured.{Measured}
-use Rattle.sheets.specs.Slots.{placeOf, usedB, slotRefusal, slotAnswer, recordsChecked, figuresIn, slotFigures, figuresFrom, figures, translated, translation, sized, measured}
+use Rattle.sheets.specs.Slots.{placeOf, usedB, slotRefusal, slotAnswer, recordsChecked, figuresIn, slotFigures, figuresFrom, figures}
+use Rattle.sheets.specs.Slots.{translated, translation, sized, measured}
 
 -- ---- one slot
 module _ (s : List ℕ) (m : Room) (k : ℕ) where
@@ -152,7 +154,8 @@ module _ (s : List ℕ) (m : Room) (n k : ℕ) (t : List ℕ) (p : ℕ) where
   write-goes-on o at h w =
       rw (figures-turn s m n k h, translated-append, ← placed-append, translated-length t p (slotFigures s m k), w .0, w .1)
 
-  pub write-starts : (o : List ℕ) → placed o 2 (translated t p (figures s m n)) ≡ placed o 2 (translated t p (figuresFrom s m (50 * n - 0) 0))
+  pub write-starts : (o : List ℕ) → placed o 2 (translated t p (figures s m n))
+      ≡ placed o 2 (translated t p (figuresFrom s m (50 * n - 0) 0))
   write-starts o = rw (figures-start s m n k)
 
   pub write-ends : (o : List ℕ) (at : ℕ) → 50 * n ≤ k → o ≡ placed o at (translated t p left)

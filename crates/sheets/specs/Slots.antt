@@ -1,4 +1,5 @@
--- 01, Drawing sheets and Numbers of refusal: the records of a sheet in order (slot k is record k % 50 of block k / 50), 16 to 19, and the translation.
+-- 01, Drawing sheets and Numbers of refusal: the records of a sheet in order (slot k is record k % 50 of block k / 50), 16 to 19, and the
+-- translation.
 use Prim.Native.Nat.{ℕ, zero, suc, _+_, _*_, _/_, _%_}
 use mathlib.Core.List.{List, [], _∷_, _++_}
 use mathlib.Core.Bool.{Bool, cond}

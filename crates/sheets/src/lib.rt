@@ -72,7 +72,8 @@ fn check_records(s: &[u8], n: u8, m: Room) -> Answer
 
 // The entries of slot k go into out from at on; how many they are.
 fn put_slot(out: &mut [u16], at: u32, s: &[u8], k: u16, m: Room, t: &[u8], p: u8) -> u32
-    ensures { λ r. ⌜ (r ≡ sized (slotFigures (now (s .entry)) m k)) × (now (out .exit) ≡ placed (now (out .entry)) at (translated (now (t .entry)) p (slotFigures (now (s .entry)) m k))) ⌝ }
+    ensures { λ r. ⌜ (r ≡ sized (slotFigures (now (s .entry)) m k))
+        × (now (out .exit) ≡ placed (now (out .entry)) at (translated (now (t .entry)) p (slotFigures (now (s .entry)) m k))) ⌝ }
 {
     if !used(s, k) {
         return 0;

@@ -4,17 +4,11 @@ use lib.ListN.{length}
 use borrow.Author.Needs.{needs}
 use Rattle.bench.proofs.turns.Statement.{statement}
 use Rattle.bench.proofs.turns.Tie as tie
-use Rattle.bench.proofs.turns.Reads as reads
-use Rattle.bench.proofs.turns.Lts as lts
-use Rattle.bench.proofs.desk.start.Reads as desk-start-reads
-use Rattle.bench.proofs.output.flush.Reads as flush-reads
-use Rattle.bench.proofs.reader.start.Reads as reader-start-reads
-use Rattle.bench.proofs.turn.Reads as turn-reads
-use Rattle.registers.proofs.fresh.Reads as fresh-reads
 
 abbrev Inv-loop : tie.InvT-loop
 Inv-loop input₀ line₀ mem₀ glyphs₀ sheet₀ entries₀ out₀ b₀ left₀ input line mem glyphs sheet entries out b left =
-    (length input ≡ length input₀) × (length line ≡ length line₀) × (length mem ≡ length mem₀) × (length glyphs ≡ length glyphs₀) × (length sheet ≡ length sheet₀) × (length entries ≡ length entries₀) × (length out ≡ length out₀)
+    (length input ≡ length input₀) × (length line ≡ length line₀) × (length mem ≡ length mem₀) × (length glyphs ≡ length glyphs₀)
+    × (length sheet ≡ length sheet₀) × (length entries ≡ length entries₀) × (length out ≡ length out₀)
 
 abbrev μ-loop : tie.MeasureT-loop
 μ-loop input₀ line₀ mem₀ glyphs₀ sheet₀ entries₀ out₀ b₀ left₀ input line mem glyphs sheet entries out b left =

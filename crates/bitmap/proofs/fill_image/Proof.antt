@@ -9,9 +9,6 @@ use Rattle.bitmap.specs.Image.{bytesFrom}
 use Rattle.bitmap.proofs.ImageLaws.{filled, place-fits, fill-starts, fill-goes-on, fill-ends, fill-whole, fill-none}
 use Rattle.bitmap.proofs.fill_image.Statement.{statement}
 use Rattle.bitmap.proofs.fill_image.Tie as tie
-use Rattle.bitmap.proofs.fill_image.Reads as reads
-use Rattle.bitmap.proofs.fill_image.Lts as lts
-use Rattle.bitmap.proofs.image_byte.Reads as image-byte-reads
 
 record Going (mem : List ℕ) (p : ℕ) (image₀ : List ℕ) (width : ℕ) (image : List ℕ) (j : ℕ) : Type 0 where
   wide : width ≡ 2 * p
@@ -25,43 +22,33 @@ Inv-loop mem p image₀ width j₀ image j = Going mem p image₀ width image j
 abbrev μ-loop : tie.MeasureT-loop
 μ-loop mem p image₀ width j₀ image j = length image₀ - j
 
--- src/lib.rt:44:9
 returns : tie.Need-returns Inv-loop μ-loop
 returns c = fill-none _ _ _ (c .if1 .taken)
 
--- src/lib.rt:46:17
 mul-width : tie.Need-mul-width Inv-loop μ-loop
 mul-width c = search needs
 
--- src/lib.rt:48:5
 loop-holds : tie.Need-loop-holds Inv-loop μ-loop
 loop-holds c = record { wide = refl; within = omega arith; long = refl; same = fill-starts _ _ _ _ }
 
--- src/lib.rt:49:39
 div-image-byte : tie.Need-div-image-byte Inv-loop μ-loop
 div-image-byte c = omega (arith, c .before .loop .inv .wide, c .before .before .if1 .left)
 
--- src/lib.rt:49:50
 rem-image-byte : tie.Need-rem-image-byte Inv-loop μ-loop
 rem-image-byte c = omega (arith, c .before .loop .inv .wide, c .before .before .if1 .left)
 
--- src/lib.rt:49:20
 image-byte-requires : tie.Need-image-byte-requires Inv-loop μ-loop
 image-byte-requires c κs = let l = c .before .loop in omega (arith, place-fits _ _ _ _ (l .inv .wide) (c .loop-test .taken))
 
--- src/lib.rt:49:9
 slice-write-image : tie.Need-slice-write-image Inv-loop μ-loop
 slice-write-image c = search needs
 
--- src/lib.rt:50:9
 add-j : tie.Need-add-j Inv-loop μ-loop
 add-j c = search needs
 
--- src/lib.rt:48:5
 loop-less : tie.Need-loop-less Inv-loop μ-loop
 loop-less c = let l = c .before .before .loop in omega (arith, l .inv .long, c .before .loop-test .taken)
 
--- src/lib.rt:48:5
 loop-again : tie.Need-loop-again Inv-loop μ-loop
 loop-again c = let l = c .before .before .loop in
     let e = c .before .loop-test .taken in
@@ -72,14 +59,13 @@ loop-again c = let l = c .before .before .loop in
       same = l .inv .same ∙ fill-goes-on _ _ _ _ _ (omega (arith, l .inv .long, e)) (c .image-byte .ensures);
     }
 
--- src/lib.rt:40:1
 same-length : tie.Need-same-length Inv-loop μ-loop
 same-length c = c .before .loop .inv .long
 
--- src/lib.rt:40:1
 returns-2 : tie.Need-returns-2 Inv-loop μ-loop
 returns-2 c = let l = c .before .loop in
-    fill-ends _ _ _ _ _ (omega (arith, l .inv .long, c .loop-test .left)) ∙ sym (l .inv .same) ∙ fill-whole _ _ _ (c .before .before .if1 .left)
+    fill-ends _ _ _ _ _ (omega (arith, l .inv .long, c .loop-test .left)) ∙ sym (l .inv .same)
+    ∙ fill-whole _ _ _ (c .before .before .if1 .left)
 
 pub fill-image-spec : {M : Type 1} → statement M
 fill-image-spec =

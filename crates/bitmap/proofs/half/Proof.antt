@@ -2,14 +2,10 @@
 use Rattle.bitmap.proofs.ByteLaws.{half-low, half-high}
 use Rattle.bitmap.proofs.half.Statement.{statement}
 use Rattle.bitmap.proofs.half.Tie as tie
-use Rattle.bitmap.proofs.half.Reads as reads
-use Rattle.bitmap.proofs.half.Lts as lts
 
--- src/lib.rt:24:1
 returns : tie.Need-returns
 returns c = half-low _ _ (c .if1 .taken)
 
--- src/lib.rt:24:1
 returns-2 : tie.Need-returns-2
 returns-2 c = half-high _ _ (c .if1 .left)
 

@@ -4,22 +4,16 @@ use lib.ListN.{List·getD-eq-default}
 use borrow.Author.Needs.{needs}
 use Rattle.bitmap.proofs.word_at.Statement.{statement}
 use Rattle.bitmap.proofs.word_at.Tie as tie
-use Rattle.bitmap.proofs.word_at.Reads as reads
-use Rattle.bitmap.proofs.word_at.Lts as lts
 
--- src/lib.rt:20:25
 mul-result : tie.Need-mul-result
 mul-result c = search needs
 
--- src/lib.rt:20:25
 shared-slice-read-result : tie.Need-shared-slice-read-result
 shared-slice-read-result c = search needs
 
--- src/lib.rt:17:1
 returns : tie.Need-returns
 returns c = search needs
 
--- src/lib.rt:17:1
 returns-2 : tie.Need-returns-2
 returns-2 c = sym (List·getD-eq-default (c .before .args .mem .now) 0 (c .if1 .left))
 

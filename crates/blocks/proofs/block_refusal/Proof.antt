@@ -5,46 +5,45 @@ use Rattle.blocks.specs.Block.{blockRefusal}
 use borrow.Author.Needs.{needs}
 use Rattle.blocks.proofs.block_refusal.Statement.{statement}
 use Rattle.blocks.proofs.block_refusal.Tie as tie
-use Rattle.blocks.proofs.block_refusal.Reads as reads
-use Rattle.blocks.proofs.block_refusal.Lts as lts
-use Rattle.blocks.proofs.check_sum.Reads as check-sum-reads
-use Rattle.blocks.proofs.headed.Reads as headed-reads
-use Rattle.records.proofs.word_at.Reads as word-at-reads
 
--- src/lib.rt:68:8
 check-sum-requires : tie.Need-check-sum-requires
 check-sum-requires c κs = search needs
 
--- src/lib.rt:68:47
 mul-word-at : tie.Need-mul-word-at
 mul-word-at c = search needs
 
--- src/lib.rt:68:47
 add-word-at : tie.Need-add-word-at
 add-word-at c = search needs
 
--- src/lib.rt:68:27
 word-at-requires : tie.Need-word-at-requires
 word-at-requires c κs = search needs
 
--- src/lib.rt:69:9
 returns : tie.Need-returns
 unfolding blockRefusal
 returns c = rw (← c .before .before .check-sum .ensures, ← c .before .word-at .ensures, ne-eqb _ _ (c .if1 .taken))
 
--- src/lib.rt:71:9
 headed-requires : tie.Need-headed-requires
 headed-requires c κs = search needs
 
--- src/lib.rt:72:9
 returns-2 : tie.Need-returns-2
 unfolding blockRefusal
-returns-2 c = rw (← c .before .before .before .before .check-sum .ensures, ← c .before .before .before .word-at .ensures, eq-eqb _ _ (c .before .before .if1 .left), sym (c .before .headed .ensures) ∙ not-true _ (c .if2 .taken))
+returns-2 c =
+    rw (
+      ← c .before .before .before .before .check-sum .ensures,
+      ← c .before .before .before .word-at .ensures,
+      eq-eqb _ _ (c .before .before .if1 .left),
+      sym (c .before .headed .ensures) ∙ not-true _ (c .if2 .taken),
+    )
 
--- src/lib.rt:65:1
 returns-3 : tie.Need-returns-3
 unfolding blockRefusal
-returns-3 c = rw (← c .before .before .before .before .check-sum .ensures, ← c .before .before .before .word-at .ensures, eq-eqb _ _ (c .before .before .if1 .left), sym (c .before .headed .ensures) ∙ not-false _ (c .if2 .left))
+returns-3 c =
+    rw (
+      ← c .before .before .before .before .check-sum .ensures,
+      ← c .before .before .before .word-at .ensures,
+      eq-eqb _ _ (c .before .before .if1 .left),
+      sym (c .before .headed .ensures) ∙ not-false _ (c .if2 .left),
+    )
 
 pub block-refusal-spec : {M : Type 1} → statement M
 block-refusal-spec =

@@ -7,9 +7,6 @@ use Rattle.blocks.specs.Block.{blockAnswer, blocksChecked}
 use Rattle.blocks.proofs.BlockLaws.{blocks-start, blocks-stop, blocks-go-on, blocks-end}
 use Rattle.blocks.proofs.check_blocks.Statement.{statement}
 use Rattle.blocks.proofs.check_blocks.Tie as tie
-use Rattle.blocks.proofs.check_blocks.Reads as reads
-use Rattle.blocks.proofs.check_blocks.Lts as lts
-use Rattle.blocks.proofs.block_refusal.Reads as block-refusal-reads
 
 abbrev Inv-loop : tie.InvT-loop
 Inv-loop s n b₀ b = (b ≤ n) × (blocksChecked s n ≡ firstFrom (blockAnswer s n) (n - b) b)
@@ -17,35 +14,32 @@ Inv-loop s n b₀ b = (b ≤ n) × (blocksChecked s n ≡ firstFrom (blockAnswer
 abbrev μ-loop : tie.MeasureT-loop
 μ-loop s n b₀ b = n - b
 
--- src/lib.rt:82:5
 loop-holds : tie.Need-loop-holds Inv-loop μ-loop
 loop-holds c = (search needs, blocks-start _ _ 0)
 
--- src/lib.rt:83:13
 block-refusal-requires : tie.Need-block-refusal-requires Inv-loop μ-loop
 block-refusal-requires c κs = search needs
 
--- src/lib.rt:87:24
 cast-t7 : tie.Need-cast-t7 Inv-loop μ-loop
 cast-t7 c = search needs
 
--- src/lib.rt:85:13
 returns : tie.Need-returns Inv-loop μ-loop
-returns c = blocks-stop _ _ _ (c .before .before .loop-test .taken) (c .before .block-refusal .ensures) (c .if1 .taken) ∙ sym (c .before .before .before .loop .inv .1)
+returns c = blocks-stop _ _ _ (c .before .before .loop-test .taken) (c .before .block-refusal .ensures) (c .if1 .taken)
+    ∙ sym (c .before .before .before .loop .inv .1)
 
--- src/lib.rt:91:9
 add-b : tie.Need-add-b Inv-loop μ-loop
 add-b c = search needs
 
--- src/lib.rt:82:5
 loop-less : tie.Need-loop-less Inv-loop μ-loop
 loop-less c = search needs
 
--- src/lib.rt:82:5
 loop-again : tie.Need-loop-again Inv-loop μ-loop
-loop-again c = (search needs, c .before .before .before .loop .inv .1 ∙ blocks-go-on _ _ _ (c .before .before .loop-test .taken) (c .before .block-refusal .ensures) (c .if1 .left))
+loop-again c = (
+  search needs,
+  c .before .before .before .loop .inv .1
+      ∙ blocks-go-on _ _ _ (c .before .before .loop-test .taken) (c .before .block-refusal .ensures) (c .if1 .left),
+)
 
--- src/lib.rt:78:1
 returns-2 : tie.Need-returns-2 Inv-loop μ-loop
 returns-2 c = blocks-end _ _ _ (c .loop-test .left) ∙ sym (c .before .loop .inv .1)
 

@@ -2,14 +2,10 @@
 use borrow.Author.Tests.{eq-eqb, ne-eqb}
 use Rattle.blocks.proofs.first_refusal.Statement.{statement}
 use Rattle.blocks.proofs.first_refusal.Tie as tie
-use Rattle.blocks.proofs.first_refusal.Reads as reads
-use Rattle.blocks.proofs.first_refusal.Lts as lts
 
--- src/lib.rt:14:1
 returns : tie.Need-returns
 returns c = rw (eq-eqb _ 0 (c .if1 .taken))
 
--- src/lib.rt:14:1
 returns-2 : tie.Need-returns-2
 returns-2 c = rw (ne-eqb _ 0 (c .if1 .left))
 

@@ -5,92 +5,77 @@ use Rattle.blocks.proofs.BlockLaws.{byte-bit, head-over, true-after}
 use borrow.Author.Needs.{needs}
 use Rattle.blocks.proofs.headed.Statement.{statement}
 use Rattle.blocks.proofs.headed.Tie as tie
-use Rattle.blocks.proofs.headed.Reads as reads
-use Rattle.blocks.proofs.headed.Lts as lts
-use Rattle.blocks.proofs.zeros.Reads as zeros-reads
-use Rattle.records.proofs.byte_at.Reads as byte-at-reads
-use Rattle.records.proofs.word_at.Reads as word-at-reads
 
--- src/lib.rt:52:14
 mul-at : tie.Need-mul-at
 mul-at c = search needs
 
--- src/lib.rt:53:9
 word-at-requires : tie.Need-word-at-requires
 word-at-requires c κs = search needs
 
--- src/lib.rt:54:37
 cast-byte-at : tie.Need-cast-byte-at
 cast-byte-at c = search needs
 
--- src/lib.rt:54:37
 add-byte-at : tie.Need-add-byte-at
 add-byte-at c = search needs
 
--- src/lib.rt:54:9
 byte-at-requires : tie.Need-byte-at-requires
 byte-at-requires c κs = search needs
 
--- src/lib.rt:56:9
 returns : tie.Need-returns
 returns c = head-over _ _ _ (c .before .byte-at .ensures) (c .if1 .taken)
 
--- src/lib.rt:58:36
 cast-byte-at-2 : tie.Need-cast-byte-at-2
 cast-byte-at-2 c = search needs
 
--- src/lib.rt:58:36
 add-byte-at-2 : tie.Need-add-byte-at-2
 add-byte-at-2 c = search needs
 
--- src/lib.rt:58:9
 byte-at-requires-2 : tie.Need-byte-at-requires-2
 byte-at-requires-2 c κs = search needs
 
--- src/lib.rt:59:21
 cast-used : tie.Need-cast-used
 cast-used c = search needs
 
--- src/lib.rt:59:16
 mul-used : tie.Need-mul-used
 mul-used c = search needs
 
--- src/lib.rt:60:26
 add-zeros : tie.Need-add-zeros
 add-zeros c = search needs
 
--- src/lib.rt:60:9
 zeros-requires : tie.Need-zeros-requires
 zeros-requires c κs = search needs
 
--- src/lib.rt:61:27
 add-zeros-2 : tie.Need-add-zeros-2
 add-zeros-2 c = search needs
 
--- src/lib.rt:61:27
 add-zeros-3 : tie.Need-add-zeros-3
 add-zeros-3 c = search needs
 
--- src/lib.rt:61:42
 sub-zeros : tie.Need-sub-zeros
 sub-zeros c = search needs
 
--- src/lib.rt:61:9
 zeros-requires-2 : tie.Need-zeros-requires-2
 zeros-requires-2 c κs = search needs
 
--- src/lib.rt:62:31
 add-result : tie.Need-add-result
 add-result c = search needs
 
--- src/lib.rt:62:30
 cast-result : tie.Need-cast-result
 cast-result c = search needs
 
--- src/lib.rt:49:1
 returns-2 : tie.Need-returns-2
 unfolding headB
-returns-2 c = rw (← c .before .before .before .before .byte-at .ensures, le-leb _ 50 (c .before .before .before .if1 .left), true-after, c .before .before .before .before .before .word-at .ensures, c .before .before .byte-at2 .ensures, c .before .zeros .ensures, c .zeros2 .ensures, byte-bit)
+returns-2 c =
+    rw (
+      ← c .before .before .before .before .byte-at .ensures,
+      le-leb _ 50 (c .before .before .before .if1 .left),
+      true-after,
+      c .before .before .before .before .before .word-at .ensures,
+      c .before .before .byte-at2 .ensures,
+      c .before .zeros .ensures,
+      c .zeros2 .ensures,
+      byte-bit,
+    )
 
 pub headed-spec : {M : Type 1} → statement M
 headed-spec =

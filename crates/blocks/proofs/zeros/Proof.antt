@@ -6,9 +6,6 @@ use Rattle.blocks.specs.Block.{zerosB}
 use Rattle.blocks.proofs.BlockLaws.{zeros-start, zeros-fail, zeros-go-on, zeros-end}
 use Rattle.blocks.proofs.zeros.Statement.{statement}
 use Rattle.blocks.proofs.zeros.Tie as tie
-use Rattle.blocks.proofs.zeros.Reads as reads
-use Rattle.blocks.proofs.zeros.Lts as lts
-use Rattle.records.proofs.byte_at.Reads as byte-at-reads
 
 abbrev Inv-loop : tie.InvT-loop
 Inv-loop s at n i₀ i = (i ≤ n) × (zerosB n s at ≡ zerosB (n - i) s (at + i))
@@ -16,39 +13,35 @@ Inv-loop s at n i₀ i = (i ≤ n) × (zerosB n s at ≡ zerosB (n - i) s (at + 
 abbrev μ-loop : tie.MeasureT-loop
 μ-loop s at n i₀ i = n - i
 
--- src/lib.rt:39:5
 loop-holds : tie.Need-loop-holds Inv-loop μ-loop
 loop-holds c = (search needs, zeros-start _ _ _ 0)
 
--- src/lib.rt:40:46
 cast-byte-at : tie.Need-cast-byte-at Inv-loop μ-loop
 cast-byte-at c = search needs
 
--- src/lib.rt:40:32
 add-byte-at : tie.Need-add-byte-at Inv-loop μ-loop
 add-byte-at c = search needs
 
--- src/lib.rt:40:12
 byte-at-requires : tie.Need-byte-at-requires Inv-loop μ-loop
 byte-at-requires c κs = search needs
 
--- src/lib.rt:41:13
 returns : tie.Need-returns Inv-loop μ-loop
-returns c = zeros-fail _ _ _ _ (c .before .before .loop-test .taken) (c .before .byte-at .ensures) (c .if1 .taken) ∙ sym (c .before .before .before .loop .inv .1)
+returns c = zeros-fail _ _ _ _ (c .before .before .loop-test .taken) (c .before .byte-at .ensures) (c .if1 .taken)
+    ∙ sym (c .before .before .before .loop .inv .1)
 
--- src/lib.rt:43:9
 add-i : tie.Need-add-i Inv-loop μ-loop
 add-i c = search needs
 
--- src/lib.rt:39:5
 loop-less : tie.Need-loop-less Inv-loop μ-loop
 loop-less c = search needs
 
--- src/lib.rt:39:5
 loop-again : tie.Need-loop-again Inv-loop μ-loop
-loop-again c = (search needs, c .before .before .before .loop .inv .1 ∙ zeros-go-on _ _ _ _ (c .before .before .loop-test .taken) (c .before .byte-at .ensures) (c .if1 .left))
+loop-again c = (
+  search needs,
+  c .before .before .before .loop .inv .1
+      ∙ zeros-go-on _ _ _ _ (c .before .before .loop-test .taken) (c .before .byte-at .ensures) (c .if1 .left),
+)
 
--- src/lib.rt:35:1
 returns-2 : tie.Need-returns-2 Inv-loop μ-loop
 returns-2 c = zeros-end _ _ _ _ (c .loop-test .left) ∙ sym (c .before .loop .inv .1)
 

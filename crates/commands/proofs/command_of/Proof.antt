@@ -4,100 +4,78 @@ use borrow.Author.Tests.{ne-eqb}
 use borrow.Author.Needs.{needs}
 use Rattle.commands.proofs.command_of.Statement.{statement}
 use Rattle.commands.proofs.command_of.Tie as tie
-use Rattle.commands.proofs.command_of.Reads as reads
-use Rattle.commands.proofs.command_of.Lts as lts
-use Rattle.commands.proofs.family_of.Reads as family-of-reads
 
--- src/lib.rt:29:14
 family-of-requires : tie.Need-family-of-requires
 family-of-requires c κs = search needs
 
--- src/lib.rt:8:1
 returns : tie.Need-returns
 unfolding commandOf
 returns c = rw (c .match .keys1)
 
--- src/lib.rt:8:1
 returns-2 : tie.Need-returns-2
 unfolding commandOf
 returns-2 c = rw (c .match .keys2)
 
--- src/lib.rt:8:1
 returns-3 : tie.Need-returns-3
 unfolding commandOf
 returns-3 c = rw (c .match .keys3)
 
--- src/lib.rt:8:1
 returns-4 : tie.Need-returns-4
 unfolding commandOf
 returns-4 c = rw (c .match .keys4)
 
--- src/lib.rt:8:1
 returns-5 : tie.Need-returns-5
 unfolding commandOf
 returns-5 c = rw (c .match .keys5)
 
--- src/lib.rt:8:1
 returns-6 : tie.Need-returns-6
 unfolding commandOf
 returns-6 c = rw (c .match .keys6)
 
--- src/lib.rt:8:1
 returns-7 : tie.Need-returns-7
 unfolding commandOf
 returns-7 c = rw (c .match .keys7)
 
--- src/lib.rt:8:1
 returns-8 : tie.Need-returns-8
 unfolding commandOf
 returns-8 c = rw (c .match .keys8)
 
--- src/lib.rt:8:1
 returns-9 : tie.Need-returns-9
 unfolding commandOf
 returns-9 c = rw (c .match .keys9)
 
--- src/lib.rt:8:1
 returns-10 : tie.Need-returns-10
 unfolding commandOf
 returns-10 c = rw (c .match .keys10)
 
--- src/lib.rt:8:1
 returns-11 : tie.Need-returns-11
 unfolding commandOf
 returns-11 c = rw (c .match .keys11)
 
--- src/lib.rt:8:1
 returns-12 : tie.Need-returns-12
 unfolding commandOf
 returns-12 c = rw (c .match .keys12)
 
--- src/lib.rt:8:1
 returns-13 : tie.Need-returns-13
 unfolding commandOf
 returns-13 c = rw (c .match .keys13)
 
--- src/lib.rt:8:1
 returns-14 : tie.Need-returns-14
 unfolding commandOf
 returns-14 c = rw (c .match .keys14)
 
--- src/lib.rt:8:1
 returns-15 : tie.Need-returns-15
 unfolding commandOf
 returns-15 c = rw (c .match .keys15)
 
--- src/lib.rt:8:1
 returns-16 : tie.Need-returns-16
 unfolding commandOf
 returns-16 c = rw (c .match .keys16)
 
--- src/lib.rt:8:1
 returns-17 : tie.Need-returns-17
 unfolding commandOf
 returns-17 c = rw (c .match .keys17)
 
--- src/lib.rt:8:1
 returns-18 : tie.Need-returns-18
 unfolding commandOf
 returns-18 c = let n = c .before .match .rest in

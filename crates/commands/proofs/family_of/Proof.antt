@@ -2,30 +2,23 @@
 use Rattle.commands.specs.Decode.{familyOf}
 use Rattle.commands.proofs.family_of.Statement.{statement}
 use Rattle.commands.proofs.family_of.Tie as tie
-use Rattle.commands.proofs.family_of.Reads as reads
-use Rattle.commands.proofs.family_of.Lts as lts
 
--- src/lib.rt:38:9
 returns : tie.Need-returns
 unfolding familyOf
 returns c = rw (c .if1 .taken)
 
--- src/lib.rt:41:9
 returns-2 : tie.Need-returns-2
 unfolding familyOf
 returns-2 c = rw (c .before .if1 .left, c .if2 .taken)
 
--- src/lib.rt:44:9
 returns-3 : tie.Need-returns-3
 unfolding familyOf
 returns-3 c = rw (c .before .before .if1 .left, c .before .if2 .left, c .if3 .taken)
 
--- src/lib.rt:47:9
 returns-4 : tie.Need-returns-4
 unfolding familyOf
 returns-4 c = rw (c .before .before .before .if1 .left, c .before .before .if2 .left, c .before .if3 .left, c .if4 .taken)
 
--- src/lib.rt:34:1
 returns-5 : tie.Need-returns-5
 unfolding familyOf
 returns-5 c = rw (c .before .before .before .if1 .left, c .before .before .if2 .left, c .before .if3 .left, c .if4 .left)

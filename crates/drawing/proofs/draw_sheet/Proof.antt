@@ -7,69 +7,73 @@ use Rattle.drawing.proofs.DrawLaws.{way-unsound, way-mislong, way-refus
 use borrow.Author.Needs.{needs}
 use Rattle.drawing.proofs.draw_sheet.Statement.{statement}
 use Rattle.drawing.proofs.draw_sheet.Tie as tie
-use Rattle.drawing.proofs.draw_sheet.Reads as reads
-use Rattle.drawing.proofs.draw_sheet.Lts as lts
-use Rattle.drawing.proofs.refuse.Reads as refuse-reads
-use Rattle.drawing.proofs.send_all.Reads as send-all-reads
-use Rattle.registers.proofs.sound.Reads as sound-reads
-use Rattle.sheets.proofs.translate.Reads as translate-reads
-use Rattle.units.proofs.length_right.Reads as length-right-reads
 
--- src/lib.rt:94:9
 sound-requires : tie.Need-sound-requires
 sound-requires c κs = search needs
 
--- src/lib.rt:95:9
 refuse-requires : tie.Need-refuse-requires
 refuse-requires c κs = search needs
 
--- src/lib.rt:95:9
 returns : tie.Need-returns
 returns c = way-unsound _ _ _ _ _ _ _ (sym (c .before .before .sound .ensures) ∙ not-true _ (c .before .if1 .taken)) (c .refuse .ensures)
 
--- src/lib.rt:97:9
 length-right-requires : tie.Need-length-right-requires
 length-right-requires c κs = search needs
 
--- src/lib.rt:98:9
 refuse-requires-2 : tie.Need-refuse-requires-2
 refuse-requires-2 c κs = search needs
 
--- src/lib.rt:98:9
 returns-2 : tie.Need-returns-2
-returns-2 c = way-mislong _ _ _ _ _ _ _ (sym (c .before .before .before .before .sound .ensures) ∙ not-false _ (c .before .before .before .if1 .left)) (sym (c .before .before .length-right .ensures) ∙ not-true _ (c .before .if2 .taken)) (c .refuse2 .ensures)
+returns-2 c =
+    way-mislong _ _ _ _ _ _ _ (sym (c .before .before .before .before .sound .ensures) ∙ not-false _ (c .before .before .before .if1 .left))
+    (sym (c .before .before .length-right .ensures) ∙ not-true _ (c .before .if2 .taken)) (c .refuse2 .ensures)
 
--- src/lib.rt:100:9
 translate-requires : tie.Need-translate-requires
 translate-requires c κs = search needs
 
--- src/lib.rt:102:9
 refuse-requires-3 : tie.Need-refuse-requires-3
 refuse-requires-3 c κs = search needs
 
--- src/lib.rt:102:9
 same-length : tie.Need-same-length
 same-length c = search needs
 
--- src/lib.rt:102:9
 returns-3 : tie.Need-returns-3
-returns-3 c = way-refused _ _ _ _ _ _ _ (sym (c .before .before .before .before .before .before .before .before .before .before .sound .ensures) ∙ not-false _ (c .before .before .before .before .before .before .before .before .before .if1 .left)) (sym (c .before .before .before .before .before .before .before .before .length-right .ensures) ∙ not-false _ (c .before .before .before .before .before .before .before .if2 .left)) (c .before .before .before .before .before .translate .ensures) (c .before .if3 .taken) (c .refuse3 .ensures)
+returns-3 c =
+    way-refused _ _ _ _ _ _ _ (sym (c .before .before .before .before .before .before .before .before .before .before .sound .ensures)
+    ∙ not-false _ (c .before .before .before .before .before .before .before .before .before .if1 .left))
+    (sym (c .before .before .before .before .before .before .before .before .length-right .ensures)
+    ∙ not-false _ (c .before .before .before .before .before .before .before .if2 .left))
+    (c .before .before .before .before .before .translate .ensures) (c .before .if3 .taken) (c .refuse3 .ensures)
 
--- src/lib.rt:104:9
 send-all-requires : tie.Need-send-all-requires
-send-all-requires c κs = let k = sendable _ _ _ _ _ (c .before .before .before .before .before .before .translate .ensures) (c .before .before .if3 .left) (λ j. omega (arith, c .before .before .before .before .before .before .before .before .before .before .before .before .before .before .shared-slice-known2 .given j)) in (k .fits, k .nine)
+send-all-requires c κs =
+    let b = c .before .before .before .before .before .before .before .before in
+    let k = sendable _ _ _ _ _ (c .before .before .before .before .before .before .translate .ensures) (c .before .before .if3 .left)
+    (λ j. omega (
+      arith,
+      b .before .before .before .before .before .before .shared-slice-known2 .given
+          j,
+    )) in (k .fits, k .nine)
 
--- src/lib.rt:83:1
 same-length-2 : tie.Need-same-length-2
 same-length-2 c = search needs
 
--- src/lib.rt:83:1
 same-length-3 : tie.Need-same-length-3
 same-length-3 c = search needs
 
--- src/lib.rt:83:1
 returns-4 : tie.Need-returns-4
-returns-4 c = way-sent _ _ _ _ _ _ _ (sym (c .before .before .before .before .before .before .before .before .before .before .before .before .before .before .before .sound .ensures) ∙ not-false _ (c .before .before .before .before .before .before .before .before .before .before .before .before .before .before .if1 .left)) (sym (c .before .before .before .before .before .before .before .before .before .before .before .before .before .length-right .ensures) ∙ not-false _ (c .before .before .before .before .before .before .before .before .before .before .before .before .if2 .left)) (c .before .before .before .before .before .before .before .before .before .before .translate .ensures) (c .before .before .before .before .before .before .if3 .left) (c .before .before .before .send-all .ensures)
+returns-4 c =
+    let b = c .before .before .before .before .before .before .before .before in
+    way-sent _ _ _ _ _ _ _ (sym
+    (b .before .before .before .before .before .before .before .sound .ensures)
+    ∙ not-false _
+    (b .before .before .before .before .before .before .if1 .left))
+    (sym (b .before .before .before .before .before .length-right .ensures)
+    ∙ not-false _
+    (b .before .before .before .before .if2 .left))
+    (b .before .before .translate .ensures)
+    (c .before .before .before .before .before .before .if3 .left)
+    (c .before .before .before .send-all .ensures)
 
 pub draw-sheet-spec : {M : Type 1} → statement M
 draw-sheet-spec =

@@ -3,24 +3,16 @@ use Rattle.drawing.proofs.SendLaws.{by-run}
 use borrow.Author.Needs.{needs}
 use Rattle.drawing.proofs.send.Statement.{statement}
 use Rattle.drawing.proofs.send.Tie as tie
-use Rattle.drawing.proofs.send.Reads as reads
-use Rattle.drawing.proofs.send.Lts as lts
-use Rattle.drawing.proofs.to_port.Reads as to-port-reads
-use Rattle.units.proofs.run.Reads as run-reads
 
--- src/lib.rt:46:16
 to-port-requires : tie.Need-to-port-requires
 to-port-requires c κs = search needs
 
--- src/lib.rt:46:5
 run-requires : tie.Need-run-requires
 run-requires c κs = search needs
 
--- src/lib.rt:42:1
 same-length : tie.Need-same-length
 same-length c = search needs
 
--- src/lib.rt:42:1
 returns : tie.Need-returns
 returns c = by-run _ _ _ (c .before .before .before .before .to-port .ensures) (c .before .before .run .ensures)
 

@@ -1,4 +1,5 @@
--- `send_all`: after k entries, what is left to send from here is what was to send from the start, and the units so far are what the rest lacks of all.
+-- `send_all`: after k entries, what is left to send from here is what was to send from the start, and the units so far are what the rest
+-- lacks of all.
 use Prim.Native.Nat.{ℕ, _+_, _-_, _*_, _<_, _≤_}
 use native.Mathlib.Omega.{arith}
 use mathlib.Core.List.{List}
@@ -11,9 +12,6 @@ use Rattle.sending.specs.Send.{sentAll, unitsOf}
 use Rattle.drawing.proofs.SendLaws.{rest-left, rest-units, all-sent}
 use Rattle.drawing.proofs.send_all.Statement.{statement}
 use Rattle.drawing.proofs.send_all.Tie as tie
-use Rattle.drawing.proofs.send_all.Reads as reads
-use Rattle.drawing.proofs.send_all.Lts as lts
-use Rattle.drawing.proofs.send.Reads as send-reads
 
 record Going (entries : List ℕ) (n : ℕ) (mem₀ : List ℕ) (s₀ : Registers) (mem : List ℕ) (s : Registers) (units k : ℕ) : Type 0 where
   within : k ≤ n
@@ -28,48 +26,41 @@ Inv-loop entries n mem₀ s₀ units₀ k₀ mem s units k = Going entries n mem
 abbrev μ-loop : tie.MeasureT-loop
 μ-loop entries n mem₀ s₀ units₀ k₀ mem s units k = n - k
 
--- src/lib.rt:57:5
 loop-holds : tie.Need-loop-holds Inv-loop μ-loop
 loop-holds c = record { within = omega arith; long = refl; few = omega arith; left = refl; counts = omega arith }
 
--- src/lib.rt:58:33
 cast-send : tie.Need-cast-send Inv-loop μ-loop
 cast-send c = search needs
 
--- src/lib.rt:58:25
 mul-send : tie.Need-mul-send Inv-loop μ-loop
 mul-send c = search needs
 
--- src/lib.rt:58:25
 shared-slice-read-send : tie.Need-shared-slice-read-send Inv-loop μ-loop
 shared-slice-read-send c = omega (arith, c .before .before .before .before .before .pre .0, c .before .before .loop .inv .within)
 
--- src/lib.rt:58:13
 send-requires : tie.Need-send-requires Inv-loop μ-loop
-send-requires c κs = c .before .before .before .before .before .before .pre .1 (c .before .before .before .loop .k) (omega (arith, c .before .before .loop-test .taken))
+send-requires c κs =
+    c .before .before .before .before .before .before .pre .1 (c .before .before .before .loop .k)
+    (omega (arith, c .before .before .loop-test .taken))
 
--- src/lib.rt:59:18
 cast-units : tie.Need-cast-units Inv-loop μ-loop
 cast-units c = search needs
 
--- src/lib.rt:59:9
 add-units : tie.Need-add-units Inv-loop μ-loop
 add-units c = let l = c .before .before .before .before .before .before .before .loop in
     omega (arith, l .inv .few, c .before .before .before .before .before .before .loop-test .taken, c .struct-known .given)
 
--- src/lib.rt:61:9
 add-k : tie.Need-add-k Inv-loop μ-loop
 add-k c = search needs
 
--- src/lib.rt:57:5
 loop-less : tie.Need-loop-less Inv-loop μ-loop
 loop-less c = omega (arith, c .before .before .before .before .before .before .before .loop-test .taken)
 
--- src/lib.rt:57:5
 loop-again : tie.Need-loop-again Inv-loop μ-loop
 loop-again c = let l = c .before .before .before .before .before .before .before .before .loop in
     let fits = c .before .before .before .before .before .before .before .before .before .before .before .pre .0 in
-    let more : l .k < c .before .before .before .before .before .before .before .before .before .before .before .args .n = omega (arith, c .before .before .before .before .before .before .before .loop-test .taken) in
+    let more : l .k < c .before .before .before .before .before .before .before .before .before .before .before .args .n =
+    omega (arith, c .before .before .before .before .before .before .before .loop-test .taken) in
     record {
       within = omega arith;
       long = c .before .before .before .before .send .kept .1 .1 .0 ∙ l .inv .long;
@@ -78,11 +69,9 @@ loop-again c = let l = c .before .before .before .before .before .before .before
       counts = l .inv .counts ∙ rest-units _ _ _ _ fits more (c .before .before .before .before .send .ensures) _;
     }
 
--- src/lib.rt:50:1
 same-length : tie.Need-same-length Inv-loop μ-loop
 same-length c = c .before .loop .inv .long
 
--- src/lib.rt:50:1
 returns : tie.Need-returns Inv-loop μ-loop
 returns c = let l = c .before .loop in
     let done : c .before .before .before .before .args .n ≤ l .k = omega (arith, c .loop-test .left) in

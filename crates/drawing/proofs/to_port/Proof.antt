@@ -3,28 +3,19 @@ use Rattle.drawing.proofs.SendLaws.{by-parameter, by-command}
 use borrow.Author.Needs.{needs}
 use Rattle.drawing.proofs.to_port.Statement.{statement}
 use Rattle.drawing.proofs.to_port.Tie as tie
-use Rattle.drawing.proofs.to_port.Reads as reads
-use Rattle.drawing.proofs.to_port.Lts as lts
-use Rattle.ports.proofs.write_command.Reads as write-command-reads
-use Rattle.ports.proofs.write_parameter.Reads as write-parameter-reads
 
--- src/lib.rt:32:16
 cast-byte : tie.Need-cast-byte
 cast-byte c = search needs
 
--- src/lib.rt:34:13
 write-parameter-requires : tie.Need-write-parameter-requires
 write-parameter-requires c κs = search needs
 
--- src/lib.rt:35:9
 returns : tie.Need-returns
 returns c = by-parameter _ _ (c .before .before .if1 .taken) (c .before .write-parameter .ensures)
 
--- src/lib.rt:37:9
 write-command-requires : tie.Need-write-command-requires
 write-command-requires c κs = search needs
 
--- src/lib.rt:28:1
 returns-2 : tie.Need-returns-2
 returns-2 c = by-command _ _ (c .before .before .if1 .left) (c .before .before .before .pre) (c .before .write-command .ensures)
 

@@ -4,56 +4,109 @@ use Rattle.entries.proofs.SlopeLaws.{dir-first}
 use borrow.Author.Needs.{needs}
 use Rattle.entries.proofs.direction.Statement.{statement}
 use Rattle.entries.proofs.direction.Tie as tie
-use Rattle.entries.proofs.direction.Reads as reads
-use Rattle.entries.proofs.direction.Lts as lts
-use Rattle.entries.proofs.apart.Reads as apart-reads
 
--- src/lib.rt:66:9
 apart-requires : tie.Need-apart-requires
 apart-requires c κs = search needs
 
--- src/lib.rt:67:9
 apart-requires-2 : tie.Need-apart-requires-2
 apart-requires-2 c κs = search needs
 
--- src/lib.rt:75:9
 returns : tie.Need-returns
-returns c = dir-first _ _ (c .before .before .before .before .before .before .before .before .before .before .apart .ensures) (c .before .before .before .before .before .before .before .before .before .apart2 .ensures) (c .if1 .taken)
+returns c = dir-first _ _ (c .before .before .before .before .before .before .before .before .before .before .apart .ensures)
+    (c .before .before .before .before .before .before .before .before .before .apart2 .ensures) (c .if1 .taken)
 
--- src/lib.rt:78:9
 returns-2 : tie.Need-returns-2
 unfolding dirOf
-returns-2 c = rw (← c .before .before .before .before .before .before .before .before .before .before .before .apart .ensures, ← c .before .before .before .before .before .before .before .before .before .before .apart2 .ensures, c .before .if1 .left, c .if2 .taken)
+returns-2 c =
+    rw (
+      ← c .before .before .before .before .before .before .before .before .before .before .before .apart .ensures,
+      ← c .before .before .before .before .before .before .before .before .before .before .apart2 .ensures,
+      c .before .if1 .left,
+      c .if2 .taken,
+    )
 
--- src/lib.rt:81:9
 returns-3 : tie.Need-returns-3
 unfolding dirOf
-returns-3 c = rw (← c .before .before .before .before .before .before .before .before .before .before .before .before .apart .ensures, ← c .before .before .before .before .before .before .before .before .before .before .before .apart2 .ensures, c .before .before .if1 .left, c .before .if2 .left, c .if3 .taken)
+returns-3 c =
+    rw (
+      ← c .before .before .before .before .before .before .before .before .before .before .before .before .apart .ensures,
+      ← c .before .before .before .before .before .before .before .before .before .before .before .apart2 .ensures,
+      c .before .before .if1 .left,
+      c .before .if2 .left,
+      c .if3 .taken,
+    )
 
--- src/lib.rt:84:9
 returns-4 : tie.Need-returns-4
 unfolding dirOf
-returns-4 c = rw (← c .before .before .before .before .before .before .before .before .before .before .before .before .before .apart .ensures, ← c .before .before .before .before .before .before .before .before .before .before .before .before .apart2 .ensures, c .before .before .before .if1 .left, c .before .before .if2 .left, c .before .if3 .left, c .if4 .taken)
+returns-4 c =
+    rw (
+      ← c .before .before .before .before .before .before .before .before .before .before .before .before .before .apart .ensures,
+      ← c .before .before .before .before .before .before .before .before .before .before .before .before .apart2 .ensures,
+      c .before .before .before .if1 .left,
+      c .before .before .if2 .left,
+      c .before .if3 .left,
+      c .if4 .taken,
+    )
 
--- src/lib.rt:87:9
 returns-5 : tie.Need-returns-5
 unfolding dirOf
-returns-5 c = rw (← c .before .before .before .before .before .before .before .before .before .before .before .before .before .before .apart .ensures, ← c .before .before .before .before .before .before .before .before .before .before .before .before .before .apart2 .ensures, c .before .before .before .before .if1 .left, c .before .before .before .if2 .left, c .before .before .if3 .left, c .before .if4 .left, c .if5 .taken)
+returns-5 c =
+    rw (
+      ← c .before .before .before .before .before .before .before .before .before .before .before .before .before .before .apart .ensures,
+      ← c .before .before .before .before .before .before .before .before .before .before .before .before .before .apart2 .ensures,
+      c .before .before .before .before .if1 .left,
+      c .before .before .before .if2 .left,
+      c .before .before .if3 .left,
+      c .before .if4 .left,
+      c .if5 .taken,
+    )
 
--- src/lib.rt:90:9
 returns-6 : tie.Need-returns-6
 unfolding dirOf
-returns-6 c = rw (← c .before .before .before .before .before .before .before .before .before .before .before .before .before .before .before .apart .ensures, ← c .before .before .before .before .before .before .before .before .before .before .before .before .before .before .apart2 .ensures, c .before .before .before .before .before .if1 .left, c .before .before .before .before .if2 .left, c .before .before .before .if3 .left, c .before .before .if4 .left, c .before .if5 .left, c .if6 .taken)
+returns-6 c =
+    let b = c .before .before .before .before .before .before .before .before in
+    rw (
+      ← b .before .before .before .before .before .before .before .apart .ensures,
+      ← b .before .before .before .before .before .before .apart2 .ensures,
+      c .before .before .before .before .before .if1 .left,
+      c .before .before .before .before .if2 .left,
+      c .before .before .before .if3 .left,
+      c .before .before .if4 .left,
+      c .before .if5 .left,
+      c .if6 .taken,
+    )
 
--- src/lib.rt:93:9
 returns-7 : tie.Need-returns-7
 unfolding dirOf
-returns-7 c = rw (← c .before .before .before .before .before .before .before .before .before .before .before .before .before .before .before .before .apart .ensures, ← c .before .before .before .before .before .before .before .before .before .before .before .before .before .before .before .apart2 .ensures, c .before .before .before .before .before .before .if1 .left, c .before .before .before .before .before .if2 .left, c .before .before .before .before .if3 .left, c .before .before .before .if4 .left, c .before .before .if5 .left, c .before .if6 .left, c .if7 .taken)
+returns-7 c =
+    let b = c .before .before .before .before .before .before .before .before in
+    rw (
+      ← b .before .before .before .before .before .before .before .before .apart .ensures,
+      ← b .before .before .before .before .before .before .before .apart2 .ensures,
+      c .before .before .before .before .before .before .if1 .left,
+      c .before .before .before .before .before .if2 .left,
+      c .before .before .before .before .if3 .left,
+      c .before .before .before .if4 .left,
+      c .before .before .if5 .left,
+      c .before .if6 .left,
+      c .if7 .taken,
+    )
 
--- src/lib.rt:63:1
 returns-8 : tie.Need-returns-8
 unfolding dirOf
-returns-8 c = rw (← c .before .before .before .before .before .before .before .before .before .before .before .before .before .before .before .before .apart .ensures, ← c .before .before .before .before .before .before .before .before .before .before .before .before .before .before .before .apart2 .ensures, c .before .before .before .before .before .before .if1 .left, c .before .before .before .before .before .if2 .left, c .before .before .before .before .if3 .left, c .before .before .before .if4 .left, c .before .before .if5 .left, c .before .if6 .left, c .if7 .left)
+returns-8 c =
+    let b = c .before .before .before .before .before .before .before .before in
+    rw (
+      ← b .before .before .before .before .before .before .before .before .apart .ensures,
+      ← b .before .before .before .before .before .before .before .apart2 .ensures,
+      c .before .before .before .before .before .before .if1 .left,
+      c .before .before .before .before .before .if2 .left,
+      c .before .before .before .before .if3 .left,
+      c .before .before .before .if4 .left,
+      c .before .before .if5 .left,
+      c .before .if6 .left,
+      c .if7 .left,
+    )
 
 pub direction-spec : {M : Type 1} → statement M
 direction-spec =

@@ -3,41 +3,28 @@ use Rattle.entries.specs.Entries.{dotEntries}
 use borrow.Author.Needs.{needs}
 use Rattle.entries.proofs.dot_entries.Statement.{statement}
 use Rattle.entries.proofs.dot_entries.Tie as tie
-use Rattle.entries.proofs.dot_entries.Reads as reads
-use Rattle.entries.proofs.dot_entries.Lts as lts
-use Rattle.entries.proofs.op_number.Reads as op-number-reads
-use Rattle.entries.proofs.third.Reads as third-reads
-use Rattle.entries.proofs.word_of.Reads as word-of-reads
 
--- src/lib.rt:120:29
 cast-word-of : tie.Need-cast-word-of
 cast-word-of c = search needs
 
--- src/lib.rt:120:9
 word-of-requires : tie.Need-word-of-requires
 word-of-requires c κs = search needs
 
--- src/lib.rt:122:17
 op-number-requires : tie.Need-op-number-requires
 op-number-requires c κs = search needs
 
--- src/lib.rt:122:9
 add-t7 : tie.Need-add-t7
 add-t7 c = search needs
 
--- src/lib.rt:124:9
 cast-t8 : tie.Need-cast-t8
 cast-t8 c = search needs
 
--- src/lib.rt:125:9
 cast-t11 : tie.Need-cast-t11
 cast-t11 c = search needs
 
--- src/lib.rt:126:9
 third-requires : tie.Need-third-requires
 third-requires c κs = search needs
 
--- src/lib.rt:117:1
 returns : tie.Need-returns
 unfolding dotEntries
 returns c = rw (c .third .ensures, c .before .op-number .ensures .0, c .before .before .word-of .ensures)

@@ -3,130 +3,108 @@ use Rattle.entries.specs.Entries.{glyphEntries}
 use borrow.Author.Needs.{needs}
 use Rattle.entries.proofs.glyph_entries.Statement.{statement}
 use Rattle.entries.proofs.glyph_entries.Tie as tie
-use Rattle.entries.proofs.glyph_entries.Reads as reads
-use Rattle.entries.proofs.glyph_entries.Lts as lts
-use Rattle.entries.proofs.less.Reads as less-reads
-use Rattle.entries.proofs.op_number.Reads as op-number-reads
-use Rattle.entries.proofs.row.Reads as row-reads
-use Rattle.entries.proofs.third.Reads as third-reads
-use Rattle.entries.proofs.word_of.Reads as word-of-reads
 
--- src/lib.rt:220:29
 cast-word-of : tie.Need-cast-word-of
 cast-word-of c = search needs
 
--- src/lib.rt:220:47
 mul-less : tie.Need-mul-less
 mul-less c = search needs
 
--- src/lib.rt:220:42
 less-requires : tie.Need-less-requires
 less-requires c κs = search needs
 
--- src/lib.rt:220:29
 add-word-of : tie.Need-add-word-of
 add-word-of c = search needs
 
--- src/lib.rt:220:9
 word-of-requires : tie.Need-word-of-requires
 word-of-requires c κs = search needs
 
--- src/lib.rt:221:13
 mul-k : tie.Need-mul-k
 mul-k c = search needs
 
--- src/lib.rt:223:17
 op-number-requires : tie.Need-op-number-requires
 op-number-requires c κs = search needs
 
--- src/lib.rt:223:9
 add-t16 : tie.Need-add-t16
 add-t16 c = search needs
 
--- src/lib.rt:225:9
 less-requires-2 : tie.Need-less-requires-2
 less-requires-2 c κs = search needs
 
--- src/lib.rt:225:9
 cast-t17 : tie.Need-cast-t17
 cast-t17 c = search needs
 
--- src/lib.rt:227:9
 cast-t18 : tie.Need-cast-t18
 cast-t18 c = search needs
 
--- src/lib.rt:228:9
 cast-t19 : tie.Need-cast-t19
 cast-t19 c = search needs
 
--- src/lib.rt:229:9
 third-requires : tie.Need-third-requires
 third-requires c κs = search needs
 
--- src/lib.rt:231:9
 row-requires : tie.Need-row-requires
 row-requires c κs = search needs
 
--- src/lib.rt:232:16
 add-row : tie.Need-add-row
 add-row c = search needs
 
--- src/lib.rt:232:9
 row-requires-2 : tie.Need-row-requires-2
 row-requires-2 c κs = search needs
 
--- src/lib.rt:233:16
 add-row-2 : tie.Need-add-row-2
 add-row-2 c = search needs
 
--- src/lib.rt:233:9
 row-requires-3 : tie.Need-row-requires-3
 row-requires-3 c κs = search needs
 
--- src/lib.rt:234:16
 add-row-3 : tie.Need-add-row-3
 add-row-3 c = search needs
 
--- src/lib.rt:234:9
 row-requires-4 : tie.Need-row-requires-4
 row-requires-4 c κs = search needs
 
--- src/lib.rt:235:16
 add-row-4 : tie.Need-add-row-4
 add-row-4 c = search needs
 
--- src/lib.rt:235:9
 row-requires-5 : tie.Need-row-requires-5
 row-requires-5 c κs = search needs
 
--- src/lib.rt:236:16
 add-row-5 : tie.Need-add-row-5
 add-row-5 c = search needs
 
--- src/lib.rt:236:9
 row-requires-6 : tie.Need-row-requires-6
 row-requires-6 c κs = search needs
 
--- src/lib.rt:237:16
 add-row-6 : tie.Need-add-row-6
 add-row-6 c = search needs
 
--- src/lib.rt:237:9
 row-requires-7 : tie.Need-row-requires-7
 row-requires-7 c κs = search needs
 
--- src/lib.rt:238:16
 add-row-7 : tie.Need-add-row-7
 add-row-7 c = search needs
 
--- src/lib.rt:238:9
 row-requires-8 : tie.Need-row-requires-8
 row-requires-8 c κs = search needs
 
--- src/lib.rt:217:1
 returns : tie.Need-returns
 unfolding glyphEntries
-returns c = rw (c .row8 .ensures, c .before .row7 .ensures, c .before .before .row6 .ensures, c .before .before .before .row5 .ensures, c .before .before .before .before .row4 .ensures, c .before .before .before .before .before .row3 .ensures, c .before .before .before .before .before .before .row2 .ensures, c .before .before .before .before .before .before .before .row .ensures, c .before .before .before .before .before .before .before .before .third .ensures, c .before .before .before .before .before .before .before .before .before .less2 .ensures, c .before .before .before .before .before .before .before .before .before .before .op-number .ensures .0, c .before .before .before .before .before .before .before .before .before .before .before .word-of .ensures, c .before .before .before .before .before .before .before .before .before .before .before .before .less .ensures)
+returns c = rw (
+  c .row8 .ensures,
+  c .before .row7 .ensures,
+  c .before .before .row6 .ensures,
+  c .before .before .before .row5 .ensures,
+  c .before .before .before .before .row4 .ensures,
+  c .before .before .before .before .before .row3 .ensures,
+  c .before .before .before .before .before .before .row2 .ensures,
+  c .before .before .before .before .before .before .before .row .ensures,
+  c .before .before .before .before .before .before .before .before .third .ensures,
+  c .before .before .before .before .before .before .before .before .before .less2 .ensures,
+  c .before .before .before .before .before .before .before .before .before .before .op-number .ensures .0,
+  c .before .before .before .before .before .before .before .before .before .before .before .word-of .ensures,
+  c .before .before .before .before .before .before .before .before .before .before .before .before .less .ensures,
+)
 
 pub glyph-entries-spec : {M : Type 1} → statement M
 glyph-entries-spec =

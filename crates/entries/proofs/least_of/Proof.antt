@@ -2,19 +2,13 @@
 use borrow.Author.Needs.{needs}
 use Rattle.entries.proofs.least_of.Statement.{statement}
 use Rattle.entries.proofs.least_of.Tie as tie
-use Rattle.entries.proofs.least_of.Reads as reads
-use Rattle.entries.proofs.least_of.Lts as lts
-use Rattle.entries.proofs.smaller.Reads as smaller-reads
 
--- src/lib.rt:251:12
 smaller-requires : tie.Need-smaller-requires
 smaller-requires c κs = search needs
 
--- src/lib.rt:252:12
 smaller-requires-2 : tie.Need-smaller-requires-2
 smaller-requires-2 c κs = search needs
 
--- src/lib.rt:247:1
 returns : tie.Need-returns
 returns c = rw (c .smaller2 .ensures, c .before .smaller .ensures)
 

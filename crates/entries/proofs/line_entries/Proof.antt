@@ -3,126 +3,98 @@ use Rattle.entries.specs.Entries.{lineEntries}
 use borrow.Author.Needs.{needs}
 use Rattle.entries.proofs.line_entries.Statement.{statement}
 use Rattle.entries.proofs.line_entries.Tie as tie
-use Rattle.entries.proofs.line_entries.Reads as reads
-use Rattle.entries.proofs.line_entries.Lts as lts
-use Rattle.entries.proofs.minus.Reads as minus-reads
-use Rattle.entries.proofs.op_number.Reads as op-number-reads
-use Rattle.entries.proofs.slope_of.Reads as slope-of-reads
-use Rattle.entries.proofs.third.Reads as third-reads
-use Rattle.entries.proofs.word_of.Reads as word-of-reads
 
--- src/lib.rt:139:29
 cast-word-of : tie.Need-cast-word-of
 cast-word-of c = search needs
 
--- src/lib.rt:139:9
 word-of-requires : tie.Need-word-of-requires
 word-of-requires c κs = search needs
 
--- src/lib.rt:140:9
 slope-of-requires : tie.Need-slope-of-requires
 slope-of-requires c κs = search needs
 
--- src/lib.rt:141:13
 cast-n : tie.Need-cast-n
 cast-n c = search needs
 
--- src/lib.rt:142:13
 cast-m : tie.Need-cast-m
 cast-m c = search needs
 
--- src/lib.rt:143:19
 mul-minus : tie.Need-mul-minus
 mul-minus c = search needs
 
--- src/lib.rt:143:9
 minus-requires : tie.Need-minus-requires
 minus-requires c κs = search needs
 
--- src/lib.rt:144:20
 mul-minus-2 : tie.Need-mul-minus-2
 mul-minus-2 c = search needs
 
--- src/lib.rt:144:27
 mul-minus-3 : tie.Need-mul-minus-3
 mul-minus-3 c = search needs
 
--- src/lib.rt:144:9
 minus-requires-2 : tie.Need-minus-requires-2
 minus-requires-2 c κs = search needs
 
--- src/lib.rt:146:17
 op-number-requires : tie.Need-op-number-requires
 op-number-requires c κs = search needs
 
--- src/lib.rt:146:9
 add-t14 : tie.Need-add-t14
 add-t14 c = search needs
 
--- src/lib.rt:148:9
 cast-t15 : tie.Need-cast-t15
 cast-t15 c = search needs
 
--- src/lib.rt:149:9
 cast-t17 : tie.Need-cast-t17
 cast-t17 c = search needs
 
--- src/lib.rt:150:9
 third-requires : tie.Need-third-requires
 third-requires c κs = search needs
 
--- src/lib.rt:155:13
 cast-t19 : tie.Need-cast-t19
 cast-t19 c = search needs
 
--- src/lib.rt:155:9
 add-t20 : tie.Need-add-t20
 add-t20 c = search needs
 
--- src/lib.rt:156:9
 cast-t22 : tie.Need-cast-t22
 cast-t22 c = search needs
 
--- src/lib.rt:157:9
 cast-t25 : tie.Need-cast-t25
 cast-t25 c = search needs
 
--- src/lib.rt:158:9
 cast-t27 : tie.Need-cast-t27
 cast-t27 c = search needs
 
--- src/lib.rt:159:9
 cast-t30 : tie.Need-cast-t30
 cast-t30 c = search needs
 
--- src/lib.rt:160:9
 cast-t32 : tie.Need-cast-t32
 cast-t32 c = search needs
 
--- src/lib.rt:161:9
 cast-t35 : tie.Need-cast-t35
 cast-t35 c = search needs
 
--- src/lib.rt:162:10
 mul-t36 : tie.Need-mul-t36
 mul-t36 c = search needs
 
--- src/lib.rt:162:9
 cast-t38 : tie.Need-cast-t38
 cast-t38 c = search needs
 
--- src/lib.rt:163:10
 mul-t39 : tie.Need-mul-t39
 mul-t39 c = search needs
 
--- src/lib.rt:163:9
 cast-t42 : tie.Need-cast-t42
 cast-t42 c = search needs
 
--- src/lib.rt:136:1
 returns : tie.Need-returns
 unfolding lineEntries
-returns c = rw (c .before .third .ensures, c .before .before .op-number .ensures .0, c .before .before .before .minus2 .ensures, c .before .before .before .before .minus .ensures, c .before .before .before .before .before .before .before .slope-of .ensures, c .before .before .before .before .before .before .before .before .word-of .ensures)
+returns c = rw (
+  c .before .third .ensures,
+  c .before .before .op-number .ensures .0,
+  c .before .before .before .minus2 .ensures,
+  c .before .before .before .before .minus .ensures,
+  c .before .before .before .before .before .before .before .slope-of .ensures,
+  c .before .before .before .before .before .before .before .before .word-of .ensures,
+)
 
 pub line-entries-spec : {M : Type 1} → statement M
 line-entries-spec =

@@ -2,52 +2,48 @@
 use borrow.Author.Needs.{needs}
 use Rattle.entries.proofs.plain_of.Statement.{statement}
 use Rattle.entries.proofs.plain_of.Tie as tie
-use Rattle.entries.proofs.plain_of.Reads as reads
-use Rattle.entries.proofs.plain_of.Lts as lts
-use Rattle.entries.proofs.greatest_of.Reads as greatest-of-reads
-use Rattle.entries.proofs.least_of.Reads as least-of-reads
 
--- src/lib.rt:270:21
 enum-known-f : tie.Need-enum-known-f
 enum-known-f c = search needs
 
--- src/lib.rt:271:22
 enum-known-f-2 : tie.Need-enum-known-f-2
 enum-known-f-2 c = search needs
 
--- src/lib.rt:272:27
 enum-known-f-3 : tie.Need-enum-known-f-3
 enum-known-f-3 c = search needs
 
--- src/lib.rt:273:17
 least-of-requires : tie.Need-least-of-requires
 least-of-requires c κs = search needs
 
--- src/lib.rt:274:17
 greatest-of-requires : tie.Need-greatest-of-requires
 greatest-of-requires c κs = search needs
 
--- src/lib.rt:276:17
 returns : tie.Need-returns
-returns c = rw (c .before .before .before .before .before .greatest-of .ensures, c .before .before .before .before .before .before .least-of .ensures, c .before .before .before .before .before .before .before .before .f3 .given .1, c .if1 .taken)
+returns c = rw (
+  c .before .before .before .before .before .greatest-of .ensures,
+  c .before .before .before .before .before .before .least-of .ensures,
+  c .before .before .before .before .before .before .before .before .f3 .given .1,
+  c .if1 .taken,
+)
 
--- src/lib.rt:280:25
 enum-known-f-4 : tie.Need-enum-known-f-4
 enum-known-f-4 c = search needs
 
--- src/lib.rt:266:1
 returns-2 : tie.Need-returns-2
 returns-2 c = rw (c .before .f .given .1)
 
--- src/lib.rt:266:1
 returns-3 : tie.Need-returns-3
 returns-3 c = rw (c .before .f2 .given .1)
 
--- src/lib.rt:266:1
 returns-4 : tie.Need-returns-4
-returns-4 c = rw (c .before .before .before .before .before .greatest-of .ensures, c .before .before .before .before .before .before .least-of .ensures, c .before .before .before .before .before .before .before .before .f3 .given .1, c .if1 .left)
+returns-4 c =
+    rw (
+      c .before .before .before .before .before .greatest-of .ensures,
+      c .before .before .before .before .before .before .least-of .ensures,
+      c .before .before .before .before .before .before .before .before .f3 .given .1,
+      c .if1 .left,
+    )
 
--- src/lib.rt:266:1
 returns-5 : tie.Need-returns-5
 returns-5 c = rw (c .before .f4 .given .1)
 

@@ -8,9 +8,6 @@ use Rattle.entries.specs.Entries.{placed}
 use Rattle.entries.proofs.PutLaws.{put-starts, put-goes-on, put-ends}
 use Rattle.entries.proofs.put.Statement.{statement}
 use Rattle.entries.proofs.put.Tie as tie
-use Rattle.entries.proofs.put.Reads as reads
-use Rattle.entries.proofs.put.Lts as lts
-use Rattle.entries.proofs.store.Reads as store-reads
 
 abbrev Inv-loop : tie.InvT-loop
 Inv-loop out₀ at e i₀ out i = (i ≤ length e) × (length out ≡ length out₀) × (placed out₀ at e ≡ placed out (at + i) (drop i e))
@@ -18,44 +15,37 @@ Inv-loop out₀ at e i₀ out i = (i ≤ length e) × (length out ≡ length out
 abbrev μ-loop : tie.MeasureT-loop
 μ-loop out₀ at e i₀ out i = length e - i
 
--- src/lib.rt:319:5
 loop-holds : tie.Need-loop-holds Inv-loop μ-loop
 loop-holds c = (search needs, refl, put-starts _ _ _)
 
--- src/lib.rt:320:20
 add-store : tie.Need-add-store Inv-loop μ-loop
 add-store c = search needs
 
--- src/lib.rt:320:37
 mul-store : tie.Need-mul-store Inv-loop μ-loop
 mul-store c = search needs
 
--- src/lib.rt:320:37
 shared-slice-read-store : tie.Need-shared-slice-read-store Inv-loop μ-loop
 shared-slice-read-store c = search needs
 
--- src/lib.rt:320:9
 store-requires : tie.Need-store-requires Inv-loop μ-loop
 store-requires c κs = search needs
 
--- src/lib.rt:321:9
 add-i : tie.Need-add-i Inv-loop μ-loop
 add-i c = search needs
 
--- src/lib.rt:319:5
 loop-less : tie.Need-loop-less Inv-loop μ-loop
 loop-less c = search needs
 
--- src/lib.rt:319:5
 loop-again : tie.Need-loop-again Inv-loop μ-loop
-loop-again c = let l = c .before .before .before .before .before .before .loop in
-    (search needs, c .before .before .store .kept .0 ∙ l .inv .1, l .inv .2 ∙ put-goes-on _ _ _ _ (c .before .before .before .before .before .loop-test .taken) (c .before .before .store .ensures))
+loop-again c = let l = c .before .before .before .before .before .before .loop in (
+  search needs,
+  c .before .before .store .kept .0 ∙ l .inv .1,
+  l .inv .2 ∙ put-goes-on _ _ _ _ (c .before .before .before .before .before .loop-test .taken) (c .before .before .store .ensures),
+)
 
--- src/lib.rt:315:1
 same-length : tie.Need-same-length Inv-loop μ-loop
 same-length c = c .before .loop .inv .1
 
--- src/lib.rt:315:1
 returns : tie.Need-returns Inv-loop μ-loop
 returns c = put-ends _ _ _ _ (c .loop-test .left) ∙ sym (c .before .loop .inv .2)
 

@@ -5,123 +5,100 @@ use Rattle.entries.proofs.PutLaws.{put-by}
 use borrow.Author.Needs.{needs}
 use Rattle.entries.proofs.put_record.Statement.{statement}
 use Rattle.entries.proofs.put_record.Tie as tie
-use Rattle.entries.proofs.put_record.Reads as reads
-use Rattle.entries.proofs.put_record.Lts as lts
-use Rattle.entries.proofs.apart.Reads as apart-reads
-use Rattle.entries.proofs.dot_entries.Reads as dot-entries-reads
-use Rattle.entries.proofs.glyph_entries.Reads as glyph-entries-reads
-use Rattle.entries.proofs.line_entries.Reads as line-entries-reads
-use Rattle.entries.proofs.plain_of.Reads as plain-of-reads
-use Rattle.entries.proofs.put.Reads as put-reads
-use Rattle.entries.proofs.rectangle_entries.Reads as rectangle-entries-reads
 
--- src/lib.rt:331:11
 plain-of-requires : tie.Need-plain-of-requires
 plain-of-requires c κs = search needs
 
--- src/lib.rt:332:21
 enum-known-a : tie.Need-enum-known-a
 enum-known-a c = search needs
 
--- src/lib.rt:332:41
 dot-entries-requires : tie.Need-dot-entries-requires
 dot-entries-requires c κs = search needs
 
--- src/lib.rt:332:40
 slice-aggregate-put : tie.Need-slice-aggregate-put
 slice-aggregate-put c = search needs
 
--- src/lib.rt:332:27
 put-requires : tie.Need-put-requires
 put-requires c κs = search needs
 
--- src/lib.rt:333:22
 enum-known-a-2 : tie.Need-enum-known-a-2
 enum-known-a-2 c = search needs
 
--- src/lib.rt:333:45
 line-entries-requires : tie.Need-line-entries-requires
 line-entries-requires c κs = search needs
 
--- src/lib.rt:333:44
 slice-aggregate-put-2 : tie.Need-slice-aggregate-put-2
 slice-aggregate-put-2 c = search needs
 
--- src/lib.rt:333:31
 put-requires-2 : tie.Need-put-requires-2
 put-requires-2 c κs = search needs
 
--- src/lib.rt:334:27
 enum-known-a-3 : tie.Need-enum-known-a-3
 enum-known-a-3 c = search needs
 
--- src/lib.rt:337:42
 apart-requires : tie.Need-apart-requires
 apart-requires c κs = search needs
 
--- src/lib.rt:337:59
 apart-requires-2 : tie.Need-apart-requires-2
 apart-requires-2 c κs = search needs
 
--- src/lib.rt:337:14
 rectangle-entries-requires : tie.Need-rectangle-entries-requires
 rectangle-entries-requires c κs = search needs
 
--- src/lib.rt:337:13
 slice-aggregate-put-3 : tie.Need-slice-aggregate-put-3
 slice-aggregate-put-3 c = search needs
 
--- src/lib.rt:334:36
 put-requires-3 : tie.Need-put-requires-3
 put-requires-3 c κs = search needs
 
--- src/lib.rt:340:17
 enum-known-a-4 : tie.Need-enum-known-a-4
 enum-known-a-4 c = search needs
 
--- src/lib.rt:343:28
 glyph-entries-requires : tie.Need-glyph-entries-requires
 glyph-entries-requires c κs = search needs
 
--- src/lib.rt:343:27
 slice-aggregate-put-4 : tie.Need-slice-aggregate-put-4
 slice-aggregate-put-4 c = search needs
 
--- src/lib.rt:343:14
 put-requires-4 : tie.Need-put-requires-4
 put-requires-4 c κs = search needs
 
--- src/lib.rt:326:1
 same-length : tie.Need-same-length
 same-length c = search needs
 
--- src/lib.rt:326:1
 returns : tie.Need-returns
-returns c = put-by _ _ _ _ _ (c .before .before .before .before .before .before .before .before .before .plain-of .ensures) (c .before .before .before .before .before .before .before .a .given .1) (c .before .before .before .before .dot-entries .ensures) (c .before .before .put .ensures)
+returns c = put-by _ _ _ _ _ (c .before .before .before .before .before .before .before .before .before .plain-of .ensures)
+    (c .before .before .before .before .before .before .before .a .given .1) (c .before .before .before .before .dot-entries .ensures)
+    (c .before .before .put .ensures)
 
--- src/lib.rt:326:1
 same-length-2 : tie.Need-same-length-2
 same-length-2 c = search needs
 
--- src/lib.rt:326:1
 returns-2 : tie.Need-returns-2
-returns-2 c = put-by _ _ _ _ _ (c .before .before .before .before .before .before .before .before .before .plain-of .ensures) (c .before .before .before .before .before .before .before .a2 .given .1) (c .before .before .before .before .line-entries .ensures) (c .before .before .put2 .ensures)
+returns-2 c =
+    put-by _ _ _ _ _ (c .before .before .before .before .before .before .before .before .before .plain-of .ensures)
+    (c .before .before .before .before .before .before .before .a2 .given .1) (c .before .before .before .before .line-entries .ensures)
+    (c .before .before .put2 .ensures)
 
--- src/lib.rt:326:1
 same-length-3 : tie.Need-same-length-3
 same-length-3 c = search needs
 
--- src/lib.rt:326:1
 returns-3 : tie.Need-returns-3
-returns-3 c = put-by _ _ _ _ _ (c .before .before .before .before .before .before .before .before .before .before .before .plain-of .ensures) (c .before .before .before .before .before .before .before .before .before .a3 .given .1) (c .before .before .before .before .rectangle-entries .ensures ∙ ap₂ (rectangleEntries _ _ _) (c .before .before .before .before .before .before .apart .ensures) (c .before .before .before .before .before .apart2 .ensures)) (c .before .before .put3 .ensures)
+returns-3 c =
+    put-by _ _ _ _ _ (c .before .before .before .before .before .before .before .before .before .before .before .plain-of .ensures)
+    (c .before .before .before .before .before .before .before .before .before .a3 .given .1)
+    (c .before .before .before .before .rectangle-entries .ensures
+    ∙ ap₂ (rectangleEntries _ _ _) (c .before .before .before .before .before .before .apart .ensures)
+    (c .before .before .before .before .before .apart2 .ensures)) (c .before .before .put3 .ensures)
 
--- src/lib.rt:326:1
 same-length-4 : tie.Need-same-length-4
 same-length-4 c = search needs
 
--- src/lib.rt:326:1
 returns-4 : tie.Need-returns-4
-returns-4 c = put-by _ _ _ _ _ (c .before .before .before .before .before .before .before .before .before .plain-of .ensures) (c .before .before .before .before .before .before .before .a4 .given .1) (c .before .before .before .before .glyph-entries .ensures) (c .before .before .put4 .ensures)
+returns-4 c =
+    put-by _ _ _ _ _ (c .before .before .before .before .before .before .before .before .before .plain-of .ensures)
+    (c .before .before .before .before .before .before .before .a4 .given .1)
+    (c .before .before .before .before .glyph-entries .ensures) (c .before .before .put4 .ensures)
 
 pub put-record-spec : {M : Type 1} → statement M
 put-record-spec =

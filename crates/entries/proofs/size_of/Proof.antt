@@ -3,43 +3,31 @@ use Rattle.entries.proofs.PutLaws.{size-by}
 use borrow.Author.Needs.{needs}
 use Rattle.entries.proofs.size_of.Statement.{statement}
 use Rattle.entries.proofs.size_of.Tie as tie
-use Rattle.entries.proofs.size_of.Reads as reads
-use Rattle.entries.proofs.size_of.Lts as lts
-use Rattle.entries.proofs.plain_of.Reads as plain-of-reads
 
--- src/lib.rt:293:11
 plain-of-requires : tie.Need-plain-of-requires
 plain-of-requires c κs = search needs
 
--- src/lib.rt:294:27
 enum-told : tie.Need-enum-told
 enum-told c = search needs
 
--- src/lib.rt:295:31
 enum-told-2 : tie.Need-enum-told-2
 enum-told-2 c = search needs
 
--- src/lib.rt:296:36
 enum-told-3 : tie.Need-enum-told-3
 enum-told-3 c = search needs
 
--- src/lib.rt:301:14
 enum-told-4 : tie.Need-enum-told-4
 enum-told-4 c = search needs
 
--- src/lib.rt:289:1
 returns : tie.Need-returns
 returns c = size-by _ (c .before .before .plain-of .ensures) (c .enum-told .given .1)
 
--- src/lib.rt:289:1
 returns-2 : tie.Need-returns-2
 returns-2 c = size-by _ (c .before .before .plain-of .ensures) (c .enum-told2 .given .1)
 
--- src/lib.rt:289:1
 returns-3 : tie.Need-returns-3
 returns-3 c = size-by _ (c .before .before .plain-of .ensures) (c .enum-told3 .given .1)
 
--- src/lib.rt:289:1
 returns-4 : tie.Need-returns-4
 returns-4 c = size-by _ (c .before .before .plain-of .ensures) (c .enum-told4 .given .1)
 

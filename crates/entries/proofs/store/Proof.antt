@@ -4,26 +4,19 @@ use lib.Seq.{set-out}
 use borrow.Author.Needs.{needs}
 use Rattle.entries.proofs.store.Statement.{statement}
 use Rattle.entries.proofs.store.Tie as tie
-use Rattle.entries.proofs.store.Reads as reads
-use Rattle.entries.proofs.store.Lts as lts
 
--- src/lib.rt:310:9
 mul-out : tie.Need-mul-out
 mul-out c = search needs
 
--- src/lib.rt:310:9
 slice-write-out : tie.Need-slice-write-out
 slice-write-out c = search needs
 
--- src/lib.rt:306:1
 same-length : tie.Need-same-length
 same-length c = search needs
 
--- src/lib.rt:306:1
 returns : tie.Need-returns
 returns c = search needs
 
--- src/lib.rt:306:1
 returns-2 : tie.Need-returns-2
 returns-2 c = sym (set-out _ _ _ (c .if1 .left))
 

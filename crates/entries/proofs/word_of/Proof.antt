@@ -5,18 +5,15 @@ use native.Mathlib.Nat.{mul-le-mul}
 use borrow.Author.Needs.{needs}
 use Rattle.entries.proofs.word_of.Statement.{statement}
 use Rattle.entries.proofs.word_of.Tie as tie
-use Rattle.entries.proofs.word_of.Reads as reads
-use Rattle.entries.proofs.word_of.Lts as lts
 
--- src/lib.rt:34:5
 mul-result : tie.Need-mul-result
-mul-result c = let h : c .args .y * c .args .p ≤ 131071 * 255 = mul-le-mul {n₂ = 131071} {m₂ = 255} (search needs) (search needs) in omega arith
+mul-result c =
+    let h : c .args .y * c .args .p ≤ 131071 * 255 = mul-le-mul {n₂ = 131071} {m₂ = 255} (search needs) (search needs) in omega arith
 
--- src/lib.rt:34:5
 add-result : tie.Need-add-result
-add-result c = let h : c .args .y * c .args .p ≤ 131071 * 255 = mul-le-mul {n₂ = 131071} {m₂ = 255} (search needs) (search needs) in omega arith
+add-result c =
+    let h : c .args .y * c .args .p ≤ 131071 * 255 = mul-le-mul {n₂ = 131071} {m₂ = 255} (search needs) (search needs) in omega arith
 
--- src/lib.rt:30:1
 returns : tie.Need-returns
 returns c = search needs
 

@@ -4,41 +4,33 @@ use borrow.Author.Tests.{not-true, not-false}
 use borrow.Author.Needs.{needs}
 use Rattle.mirror.proofs.kranichseil_command.Statement.{statement}
 use Rattle.mirror.proofs.kranichseil_command.Tie as tie
-use Rattle.mirror.proofs.kranichseil_command.Reads as reads
-use Rattle.mirror.proofs.kranichseil_command.Lts as lts
-use Rattle.mirror.proofs.answer_plain.Reads as answer-plain-reads
-use Rattle.mirror.proofs.convert.from_plain.Reads as from-plain-reads
-use Rattle.mirror.proofs.form.formed.Reads as formed-reads
-use Rattle.mirror.proofs.refuse.Reads as refuse-reads
-use Rattle.ports.proofs.write_command.Reads as write-command-reads
 
--- src/lib.rt:176:9
 formed-requires : tie.Need-formed-requires
 formed-requires c κs = search needs
 
--- src/lib.rt:177:9
 refuse-requires : tie.Need-refuse-requires
 refuse-requires c κs = search needs
 
--- src/lib.rt:177:9
 returns : tie.Need-returns
 returns c = rw (sym (c .before .before .formed .ensures) ∙ not-true _ (c .before .if1 .taken), c .refuse .ensures)
 
--- src/lib.rt:179:39
 from-plain-requires : tie.Need-from-plain-requires
 from-plain-requires c κs = search needs
 
--- src/lib.rt:179:18
 write-command-requires : tie.Need-write-command-requires
 write-command-requires c κs = search needs
 
--- src/lib.rt:179:5
 answer-plain-requires : tie.Need-answer-plain-requires
 answer-plain-requires c κs = search needs
 
--- src/lib.rt:172:1
 returns-2 : tie.Need-returns-2
-returns-2 c = rw (sym (c .before .before .before .before .formed .ensures) ∙ not-false _ (c .before .before .before .if1 .left), c .answer-plain .ensures, c .before .write-command .ensures, c .before .before .from-plain .ensures)
+returns-2 c =
+    rw (
+      sym (c .before .before .before .before .formed .ensures) ∙ not-false _ (c .before .before .before .if1 .left),
+      c .answer-plain .ensures,
+      c .before .write-command .ensures,
+      c .before .before .from-plain .ensures,
+    )
 
 pub kranichseil-command-spec : {M : Type 1} → statement M
 kranichseil-command-spec =

@@ -4,41 +4,33 @@ use borrow.Author.Tests.{not-true, not-false}
 use borrow.Author.Needs.{needs}
 use Rattle.mirror.proofs.kranichseil_read.Statement.{statement}
 use Rattle.mirror.proofs.kranichseil_read.Tie as tie
-use Rattle.mirror.proofs.kranichseil_read.Reads as reads
-use Rattle.mirror.proofs.kranichseil_read.Lts as lts
-use Rattle.mirror.proofs.answer_plain.Reads as answer-plain-reads
-use Rattle.mirror.proofs.convert.from_plain.Reads as from-plain-reads
-use Rattle.mirror.proofs.form.formed.Reads as formed-reads
-use Rattle.mirror.proofs.refuse.Reads as refuse-reads
-use Rattle.ports.proofs.read_byte.Reads as read-byte-reads
 
--- src/lib.rt:198:9
 formed-requires : tie.Need-formed-requires
 formed-requires c κs = search needs
 
--- src/lib.rt:199:9
 refuse-requires : tie.Need-refuse-requires
 refuse-requires c κs = search needs
 
--- src/lib.rt:199:9
 returns : tie.Need-returns
 returns c = rw (sym (c .before .before .formed .ensures) ∙ not-true _ (c .before .if1 .taken), c .refuse .ensures)
 
--- src/lib.rt:201:35
 from-plain-requires : tie.Need-from-plain-requires
 from-plain-requires c κs = search needs
 
--- src/lib.rt:201:18
 read-byte-requires : tie.Need-read-byte-requires
 read-byte-requires c κs = search needs
 
--- src/lib.rt:201:5
 answer-plain-requires : tie.Need-answer-plain-requires
 answer-plain-requires c κs = search needs
 
--- src/lib.rt:194:1
 returns-2 : tie.Need-returns-2
-returns-2 c = rw (sym (c .before .before .before .before .formed .ensures) ∙ not-false _ (c .before .before .before .if1 .left), c .answer-plain .ensures, c .before .read-byte .ensures, c .before .before .from-plain .ensures)
+returns-2 c =
+    rw (
+      sym (c .before .before .before .before .formed .ensures) ∙ not-false _ (c .before .before .before .if1 .left),
+      c .answer-plain .ensures,
+      c .before .read-byte .ensures,
+      c .before .before .from-plain .ensures,
+    )
 
 pub kranichseil-read-spec : {M : Type 1} → statement M
 kranichseil-read-spec =

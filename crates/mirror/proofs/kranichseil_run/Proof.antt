@@ -5,40 +5,31 @@ use borrow.Author.Tests.{not-true, not-false}
 use borrow.Author.Needs.{needs}
 use Rattle.mirror.proofs.kranichseil_run.Statement.{statement}
 use Rattle.mirror.proofs.kranichseil_run.Tie as tie
-use Rattle.mirror.proofs.kranichseil_run.Reads as reads
-use Rattle.mirror.proofs.kranichseil_run.Lts as lts
-use Rattle.mirror.proofs.convert.from_plain.Reads as from-plain-reads
-use Rattle.mirror.proofs.form.formed.Reads as formed-reads
-use Rattle.mirror.proofs.ran_plain.Reads as ran-plain-reads
-use Rattle.units.proofs.run.Reads as run-reads
 
--- src/lib.rt:231:9
 formed-requires : tie.Need-formed-requires
 formed-requires c κs = search needs
 
--- src/lib.rt:232:9
 returns : tie.Need-returns
 returns c = rw (sym (c .before .formed .ensures) ∙ not-true _ (c .if1 .taken))
 
--- src/lib.rt:239:26
 from-plain-requires : tie.Need-from-plain-requires
 from-plain-requires c κs = search needs
 
--- src/lib.rt:239:15
 run-requires : tie.Need-run-requires
 run-requires c κs = search needs
 
--- src/lib.rt:239:5
 ran-plain-requires : tie.Need-ran-plain-requires
 ran-plain-requires c κs = search needs
 
--- src/lib.rt:227:1
 same-length : tie.Need-same-length
 same-length c = search needs
 
--- src/lib.rt:227:1
 returns-2 : tie.Need-returns-2
-returns-2 c = runs _ _ _ (sym (c .before .before .before .before .before .before .before .formed .ensures) ∙ not-false _ (c .before .before .before .before .before .before .if1 .left)) (c .before .before .before .before .before .from-plain .ensures) (c .before .before .before .run .ensures) (c .ran-plain .ensures)
+returns-2 c =
+    runs _ _ _ (sym (c .before .before .before .before .before .before .before .formed .ensures)
+    ∙ not-false _ (c .before .before .before .before .before .before .if1 .left))
+    (c .before .before .before .before .before .from-plain .ensures) (c .before .before .before .run .ensures)
+    (c .ran-plain .ensures)
 
 pub kranichseil-run-spec : {M : Type 1} → statement M
 kranichseil-run-spec =

@@ -2,29 +2,22 @@
 use native.Mathlib.Omega.{arith}
 use native.Mathlib.Nat.{mul-le-mul-left}
 use Prim.Native.Nat.{_*_, _%_, _≤_}
-use mathlib.Core.Path.{_≡_}
 use borrow.Author.Needs.{needs}
 use Rattle.picture.proofs.area_of.Statement.{statement}
 use Rattle.picture.proofs.area_of.Tie as tie
-use Rattle.picture.proofs.area_of.Reads as reads
-use Rattle.picture.proofs.area_of.Lts as lts
 
--- src/main.rt:99:5
 cast-result : tie.Need-cast-result
 cast-result c = search needs
 
--- src/main.rt:99:26
 cast-result-2 : tie.Need-cast-result-2
 cast-result-2 c = search needs
 
--- src/main.rt:99:5
 mul-result : tie.Need-mul-result
 mul-result c = let p = c .args .p % 256 in
     let h = c .args .h % 4097 in
     let u : p * h ≤ p * 4096 = mul-le-mul-left p (omega arith) in
     omega (arith, u)
 
--- src/main.rt:98:1
 returns : tie.Need-returns
 returns c = search needs
 

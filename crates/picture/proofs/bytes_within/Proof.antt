@@ -5,8 +5,6 @@ use denote.Ref.{now}
 use borrow.Table.Elements.{length-take-le}
 use Rattle.picture.proofs.bytes_within.Statement.{statement}
 use Rattle.picture.proofs.bytes_within.Tie as tie
-use Rattle.picture.proofs.bytes_within.Reads as reads
-use Rattle.picture.proofs.bytes_within.Lts as lts
 
 returns : tie.Need-returns
 returns c = (c .if1 .taken, sym (length-take-le _ _ (c .if1 .taken)))

@@ -5,57 +5,44 @@ use Rattle.registers.specs.declared.Mode.{Mode}
 use borrow.Author.Needs.{needs}
 use Rattle.ports.proofs.byte_in.Statement.{statement}
 use Rattle.ports.proofs.byte_in.Tie as tie
-use Rattle.ports.proofs.byte_in.Reads as reads
-use Rattle.ports.proofs.byte_in.Lts as lts
-use Rattle.ports.proofs.drop_oldest.Reads as drop-oldest-reads
-use Rattle.ports.proofs.grant.Reads as grant-reads
-use Rattle.ports.proofs.refuse.Reads as refuse-reads
-use Rattle.registers.proofs.oldest_of.Reads as oldest-of-reads
 
--- src/lib.rt:133:24
 enum-told : tie.Need-enum-told
 enum-told c = search needs
 
--- src/lib.rt:133:24
 refuse-requires : tie.Need-refuse-requires
 refuse-requires c κs = search needs
 
--- src/lib.rt:135:16
 enum-told-2 : tie.Need-enum-told-2
 enum-told-2 c = search needs
 
--- src/lib.rt:136:17
 refuse-requires-2 : tie.Need-refuse-requires-2
 refuse-requires-2 c κs = search needs
 
--- src/lib.rt:136:17
 returns : tie.Need-returns
-returns c = by-mode (λ (m : Mode). byteIn m (c .before .before .before .before .before .args .r)) (c .before .before .before .enum-told2 .given .1) (none-held _ (c .before .if1 .taken) (c .refuse2 .ensures))
+returns c = by-mode (λ (m : Mode). byteIn m (c .before .before .before .before .before .args .r))
+    (c .before .before .before .enum-told2 .given .1) (none-held _ (c .before .if1 .taken) (c .refuse2 .ensures))
 
--- src/lib.rt:139:20
 oldest-of-requires : tie.Need-oldest-of-requires
 oldest-of-requires c κs = search needs
 
--- src/lib.rt:139:19
 cast-grant : tie.Need-cast-grant
 cast-grant c = search needs
 
--- src/lib.rt:139:61
 drop-oldest-requires : tie.Need-drop-oldest-requires
 drop-oldest-requires c κs = search needs
 
--- src/lib.rt:139:13
 grant-requires : tie.Need-grant-requires
 grant-requires c κs = search needs
 
--- src/lib.rt:128:1
 returns-2 : tie.Need-returns-2
 returns-2 c = by-mode (λ (m : Mode). byteIn m (c .before .before .before .args .r)) (c .before .enum-told .given .1) (c .refuse .ensures)
 
--- src/lib.rt:128:1
 returns-3 : tie.Need-returns-3
-returns-3 c = by-mode (λ (m : Mode). byteIn m (c .before .before .before .before .before .before .before .before .args .r)) (c .before .before .before .before .before .before .enum-told2 .given .1)
-    (one-held _ (c .before .before .before .before .if1 .left) (c .before .before .oldest-of .ensures) (c .before .drop-oldest .ensures) (c .grant .ensures))
+returns-3 c =
+    by-mode (λ (m : Mode). byteIn m (c .before .before .before .before .before .before .before .before .args .r))
+    (c .before .before .before .before .before .before .enum-told2 .given .1)
+    (one-held _ (c .before .before .before .before .if1 .left) (c .before .before .oldest-of .ensures) (c .before .drop-oldest .ensures)
+    (c .grant .ensures))
 
 pub byte-in-spec : {M : Type 1} → statement M
 byte-in-spec =

@@ -8,55 +8,40 @@ use mathlib.Core.Path.{_∙_, ap}
 use borrow.Author.Needs.{needs}
 use Rattle.ports.proofs.command_in.Statement.{statement}
 use Rattle.ports.proofs.command_in.Tie as tie
-use Rattle.ports.proofs.command_in.Reads as reads
-use Rattle.ports.proofs.command_in.Lts as lts
-use Rattle.ports.proofs.grant.Reads as grant-reads
-use Rattle.ports.proofs.queue.Reads as queue-reads
-use Rattle.ports.proofs.queue_or_3.Reads as queue-or-3-reads
-use Rattle.ports.proofs.turn_back.Reads as turn-back-reads
 
--- src/lib.rt:79:38
 enum-told : tie.Need-enum-told
 enum-told c = search needs
 
--- src/lib.rt:79:38
 add-queue-or-3 : tie.Need-add-queue-or-3
 add-queue-or-3 c = search needs
 
--- src/lib.rt:79:24
 queue-or-3-requires : tie.Need-queue-or-3-requires
 queue-or-3-requires c κs = search needs
 
--- src/lib.rt:80:38
 enum-told-2 : tie.Need-enum-told-2
 enum-told-2 c = search needs
 
--- src/lib.rt:80:38
 turn-back-requires : tie.Need-turn-back-requires
 turn-back-requires c κs = search needs
 
--- src/lib.rt:80:52
 add-queue : tie.Need-add-queue
 add-queue c = search needs
 
--- src/lib.rt:80:32
 queue-requires : tie.Need-queue-requires
 queue-requires c κs = search needs
 
--- src/lib.rt:80:23
 grant-requires : tie.Need-grant-requires
 grant-requires c κs = search needs
 
--- src/lib.rt:74:1
 returns : tie.Need-returns
 returns c = let a = c .before .before .before .args in
     by-mode (λ (m : Mode). commandIn m (a .r) (a .byte)) (c .before .enum-told .given .1) (c .queue-or-3 .ensures)
 
--- src/lib.rt:74:1
 returns-2 : tie.Need-returns-2
 returns-2 c = let a = c .before .before .before .before .before .args in
     by-mode (λ (m : Mode). commandIn m (a .r) (a .byte)) (c .before .before .before .enum-told2 .given .1)
-    (c .grant .ensures ∙ ap (granted 0) (c .before .queue .ensures ∙ ap (λ (x : Registers). queued x (a .byte + 256)) (c .before .before .turn-back .ensures)))
+    (c .grant .ensures ∙ ap (granted 0) (c .before .queue .ensures
+    ∙ ap (λ (x : Registers). queued x (a .byte + 256)) (c .before .before .turn-back .ensures)))
 
 pub command-in-spec : {M : Type 1} → statement M
 command-in-spec =

@@ -2,15 +2,11 @@
 use Rattle.ports.specs.Port.{oneIf}
 use Rattle.ports.proofs.one_if.Statement.{statement}
 use Rattle.ports.proofs.one_if.Tie as tie
-use Rattle.ports.proofs.one_if.Reads as reads
-use Rattle.ports.proofs.one_if.Lts as lts
 
--- src/lib.rt:170:9
 returns : tie.Need-returns
 unfolding oneIf
 returns c = rw (c .if1 .taken)
 
--- src/lib.rt:166:1
 returns-2 : tie.Need-returns-2
 unfolding oneIf
 returns-2 c = rw (c .if1 .left)

@@ -1,52 +1,44 @@
 -- `post_pen` refuses an unsound set, and else is the definition (`turned-away`, `let-through`).
 use Rattle.ports.proofs.PortLaws.{turned-away, let-through}
 use Rattle.ports.specs.Port.{penPosted}
-use borrow.Author.Tests.{not-true, not-false, eq-eqb, ne-eqb, le-leb, lt-leb}
-use mathlib.Core.Path.{refl}
+use borrow.Author.Tests.{not-true, not-false, le-leb, lt-leb}
 use borrow.Author.Needs.{needs}
 use Rattle.ports.proofs.post_pen.Statement.{statement}
 use Rattle.ports.proofs.post_pen.Tie as tie
-use Rattle.ports.proofs.post_pen.Reads as reads
-use Rattle.ports.proofs.post_pen.Lts as lts
-use Rattle.ports.proofs.grant.Reads as grant-reads
-use Rattle.ports.proofs.put_pen.Reads as put-pen-reads
-use Rattle.ports.proofs.refuse.Reads as refuse-reads
-use Rattle.registers.proofs.sound.Reads as sound-reads
 
--- src/lib.rt:222:9
 sound-requires : tie.Need-sound-requires
 sound-requires c κs = search needs
 
--- src/lib.rt:223:9
 refuse-requires : tie.Need-refuse-requires
 refuse-requires c κs = search needs
 
--- src/lib.rt:223:9
 returns : tie.Need-returns
 unfolding penPosted
 returns c = turned-away _ _ (c .before .before .sound .ensures) (not-true _ (c .before .if1 .taken)) (c .refuse .ensures)
 
--- src/lib.rt:226:9
 refuse-requires-2 : tie.Need-refuse-requires-2
 refuse-requires-2 c κs = search needs
 
--- src/lib.rt:226:9
 returns-2 : tie.Need-returns-2
 unfolding penPosted
-returns-2 c = let-through _ _ (c .before .before .before .sound .ensures) (not-false _ (c .before .before .if1 .left)) (rw (le-leb 262144 (c .before .before .before .before .args .address) (c .before .if2 .taken)) (c .refuse2 .ensures))
+returns-2 c =
+    let-through _ _ (c .before .before .before .sound .ensures) (not-false _ (c .before .before .if1 .left))
+    (rw (le-leb 262144 (c .before .before .before .before .args .address) (c .before .if2 .taken)) (c .refuse2 .ensures))
 
--- src/lib.rt:228:14
 put-pen-requires : tie.Need-put-pen-requires
 put-pen-requires c κs = search needs
 
--- src/lib.rt:228:5
 grant-requires : tie.Need-grant-requires
 grant-requires c κs = search needs
 
--- src/lib.rt:219:1
 returns-3 : tie.Need-returns-3
 unfolding penPosted
-returns-3 c = let-through _ _ (c .before .before .before .before .sound .ensures) (not-false _ (c .before .before .before .if1 .left)) (rw (lt-leb 262144 (c .before .before .before .before .before .args .address) (c .before .before .if2 .left), ← c .before .put-pen .ensures) (c .grant .ensures))
+returns-3 c =
+    let-through _ _ (c .before .before .before .before .sound .ensures) (not-false _ (c .before .before .before .if1 .left))
+    (rw (
+      lt-leb 262144 (c .before .before .before .before .before .args .address) (c .before .before .if2 .left),
+      ← c .before .put-pen .ensures,
+    ) (c .grant .ensures))
 
 pub post-pen-spec : {M : Type 1} → statement M
 post-pen-spec =

@@ -4,33 +4,25 @@ use borrow.Author.Tests.{le-leb, lt-leb}
 use borrow.Author.Needs.{needs}
 use Rattle.ports.proofs.queue_or_3.Statement.{statement}
 use Rattle.ports.proofs.queue_or_3.Tie as tie
-use Rattle.ports.proofs.queue_or_3.Reads as reads
-use Rattle.ports.proofs.queue_or_3.Lts as lts
-use Rattle.ports.proofs.grant.Reads as grant-reads
-use Rattle.ports.proofs.queue.Reads as queue-reads
-use Rattle.ports.proofs.refuse.Reads as refuse-reads
 
--- src/lib.rt:69:9
 refuse-requires : tie.Need-refuse-requires
 refuse-requires c κs = search needs
 
--- src/lib.rt:69:9
 returns : tie.Need-returns
 unfolding queuedOr3
 returns c = rw (le-leb 16 (c .before .before .before .args .r .buffer .count) (c .before .if1 .taken)) (c .refuse .ensures)
 
--- src/lib.rt:71:14
 queue-requires : tie.Need-queue-requires
 queue-requires c κs = search needs
 
--- src/lib.rt:71:5
 grant-requires : tie.Need-grant-requires
 grant-requires c κs = search needs
 
--- src/lib.rt:65:1
 returns-2 : tie.Need-returns-2
 unfolding queuedOr3
-returns-2 c = rw (lt-leb 16 (c .before .before .before .before .args .r .buffer .count) (c .before .before .if1 .left), ← c .before .queue .ensures) (c .grant .ensures)
+returns-2 c =
+    rw (lt-leb 16 (c .before .before .before .before .args .r .buffer .count) (c .before .before .if1 .left), ← c .before .queue .ensures)
+    (c .grant .ensures)
 
 pub queue-or-3-spec : {M : Type 1} → statement M
 queue-or-3-spec =

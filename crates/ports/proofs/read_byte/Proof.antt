@@ -1,35 +1,24 @@
 -- `read_byte` refuses an unsound set, and else is the definition (`turned-away`, `let-through`).
 use Rattle.ports.proofs.PortLaws.{turned-away, let-through}
 use Rattle.ports.specs.Port.{byteRead}
-use borrow.Author.Tests.{not-true, not-false, eq-eqb, ne-eqb, le-leb, lt-leb}
-use mathlib.Core.Path.{refl}
+use borrow.Author.Tests.{not-true, not-false}
 use borrow.Author.Needs.{needs}
 use Rattle.ports.proofs.read_byte.Statement.{statement}
 use Rattle.ports.proofs.read_byte.Tie as tie
-use Rattle.ports.proofs.read_byte.Reads as reads
-use Rattle.ports.proofs.read_byte.Lts as lts
-use Rattle.ports.proofs.byte_in.Reads as byte-in-reads
-use Rattle.ports.proofs.refuse.Reads as refuse-reads
-use Rattle.registers.proofs.sound.Reads as sound-reads
 
--- src/lib.rt:148:9
 sound-requires : tie.Need-sound-requires
 sound-requires c κs = search needs
 
--- src/lib.rt:149:9
 refuse-requires : tie.Need-refuse-requires
 refuse-requires c κs = search needs
 
--- src/lib.rt:149:9
 returns : tie.Need-returns
 unfolding byteRead
 returns c = turned-away _ _ (c .before .before .sound .ensures) (not-true _ (c .before .if1 .taken)) (c .refuse .ensures)
 
--- src/lib.rt:151:5
 byte-in-requires : tie.Need-byte-in-requires
 byte-in-requires c κs = search needs
 
--- src/lib.rt:145:1
 returns-2 : tie.Need-returns-2
 unfolding byteRead
 returns-2 c = let-through _ _ (c .before .before .sound .ensures) (not-false _ (c .before .if1 .left)) (c .byte-in .ensures)

@@ -3,32 +3,22 @@ use Rattle.processor.proofs.EntryLaws.{entry-parameter, entry-command}
 use borrow.Author.Needs.{needs}
 use Rattle.processor.proofs.entry_taken.Statement.{statement}
 use Rattle.processor.proofs.entry_taken.Tie as tie
-use Rattle.processor.proofs.entry_taken.Reads as reads
-use Rattle.processor.proofs.entry_taken.Lts as lts
-use Rattle.processor.proofs.command.command_taken.Reads as command-taken-reads
-use Rattle.processor.proofs.parameter.parameter_taken.Reads as parameter-taken-reads
 
--- src/lib.rt:15:16
 cast-byte : tie.Need-cast-byte
 cast-byte c = search needs
 
--- src/lib.rt:17:9
 parameter-taken-requires : tie.Need-parameter-taken-requires
 parameter-taken-requires c κs = search needs
 
--- src/lib.rt:17:9
 same-length : tie.Need-same-length
 same-length c = search needs
 
--- src/lib.rt:17:9
 returns : tie.Need-returns
 returns c = entry-parameter _ _ _ (c .before .before .before .before .if1 .taken) (c .before .before .parameter-taken .ensures)
 
--- src/lib.rt:19:5
 command-taken-requires : tie.Need-command-taken-requires
 command-taken-requires c κs = search needs
 
--- src/lib.rt:12:1
 returns-2 : tie.Need-returns-2
 returns-2 c = entry-command _ _ _ (c .before .if1 .left) (c .command-taken .ensures)
 

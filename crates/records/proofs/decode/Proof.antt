@@ -5,53 +5,49 @@ use Rattle.records.proofs.DecodeLaws.{refuses, dots, lines, rectangles,
 use borrow.Author.Needs.{needs}
 use Rattle.records.proofs.decode.Statement.{statement}
 use Rattle.records.proofs.decode.Tie as tie
-use Rattle.records.proofs.decode.Reads as reads
-use Rattle.records.proofs.decode.Lts as lts
-use Rattle.records.proofs.dot.Reads as dot-reads
-use Rattle.records.proofs.formed.Reads as formed-reads
-use Rattle.records.proofs.glyph.Reads as glyph-reads
-use Rattle.records.proofs.line.Reads as line-reads
-use Rattle.records.proofs.rectangle.Reads as rectangle-reads
 
--- src/lib.rt:187:9
 formed-requires : tie.Need-formed-requires
 formed-requires c κs = search needs
 
--- src/lib.rt:188:9
 returns : tie.Need-returns
 returns c = refuses _ _ (sym (c .before .formed .ensures) ∙ not-true _ (c .if1 .taken))
 
--- src/lib.rt:191:9
 dot-requires : tie.Need-dot-requires
 dot-requires c κs = search needs
 
--- src/lib.rt:191:9
 returns-2 : tie.Need-returns-2
-returns-2 c = dots _ _ (sym (c .before .before .before .before .formed .ensures) ∙ not-false _ (c .before .before .before .if1 .left)) (c .before .if2 .taken) (c .dot .ensures)
+returns-2 c =
+    dots _ _ (sym (c .before .before .before .before .formed .ensures) ∙ not-false _ (c .before .before .before .if1 .left))
+    (c .before .if2 .taken) (c .dot .ensures)
 
--- src/lib.rt:194:9
 line-requires : tie.Need-line-requires
 line-requires c κs = search needs
 
--- src/lib.rt:194:9
 returns-3 : tie.Need-returns-3
-returns-3 c = lines _ _ (sym (c .before .before .before .before .before .before .formed .ensures) ∙ not-false _ (c .before .before .before .before .before .if1 .left)) (c .before .before .before .if2 .left) (c .before .if3 .taken) (c .line .ensures)
+returns-3 c =
+    lines _ _ (sym (c .before .before .before .before .before .before .formed .ensures)
+    ∙ not-false _ (c .before .before .before .before .before .if1 .left)) (c .before .before .before .if2 .left) (c .before .if3 .taken)
+    (c .line .ensures)
 
--- src/lib.rt:197:9
 rectangle-requires : tie.Need-rectangle-requires
 rectangle-requires c κs = search needs
 
--- src/lib.rt:197:9
 returns-4 : tie.Need-returns-4
-returns-4 c = rectangles _ _ (sym (c .before .before .before .before .before .before .before .before .formed .ensures) ∙ not-false _ (c .before .before .before .before .before .before .before .if1 .left)) (c .before .before .before .before .before .if2 .left) (c .before .before .before .if3 .left) (c .before .if4 .taken) (c .rectangle .ensures)
+returns-4 c =
+    rectangles _ _ (sym (c .before .before .before .before .before .before .before .before .formed .ensures)
+    ∙ not-false _ (c .before .before .before .before .before .before .before .if1 .left))
+    (c .before .before .before .before .before .if2 .left) (c .before .before .before .if3 .left) (c .before .if4 .taken)
+    (c .rectangle .ensures)
 
--- src/lib.rt:199:5
 glyph-requires : tie.Need-glyph-requires
 glyph-requires c κs = search needs
 
--- src/lib.rt:184:1
 returns-5 : tie.Need-returns-5
-returns-5 c = glyphs _ _ (sym (c .before .before .before .before .before .before .before .before .formed .ensures) ∙ not-false _ (c .before .before .before .before .before .before .before .if1 .left)) (c .before .before .before .before .before .if2 .left) (c .before .before .before .if3 .left) (c .before .if4 .left) (c .glyph .ensures)
+returns-5 c =
+    glyphs _ _ (sym (c .before .before .before .before .before .before .before .before .formed .ensures)
+    ∙ not-false _ (c .before .before .before .before .before .before .before .if1 .left))
+    (c .before .before .before .before .before .if2 .left) (c .before .before .before .if3 .left) (c .before .if4 .left)
+    (c .glyph .ensures)
 
 pub decode-spec : {M : Type 1} → statement M
 decode-spec =

@@ -3,20 +3,13 @@ use Rattle.records.specs.Decode.{decodedAt}
 use borrow.Author.Needs.{needs}
 use Rattle.records.proofs.decode_record.Statement.{statement}
 use Rattle.records.proofs.decode_record.Tie as tie
-use Rattle.records.proofs.decode_record.Reads as reads
-use Rattle.records.proofs.decode_record.Lts as lts
-use Rattle.records.proofs.decode.Reads as decode-reads
-use Rattle.records.proofs.raw_at.Reads as raw-at-reads
 
--- src/lib.rt:206:12
 raw-at-requires : tie.Need-raw-at-requires
 raw-at-requires c κs = search needs
 
--- src/lib.rt:206:5
 decode-requires : tie.Need-decode-requires
 decode-requires c κs = search needs
 
--- src/lib.rt:203:1
 returns : tie.Need-returns
 unfolding decodedAt
 returns c = rw (c .decode .ensures, c .before .raw-at .ensures)

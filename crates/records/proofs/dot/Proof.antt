@@ -3,20 +3,14 @@ use Rattle.records.specs.Decode.{dotOf}
 use borrow.Author.Needs.{needs}
 use Rattle.records.proofs.dot.Statement.{statement}
 use Rattle.records.proofs.dot.Tie as tie
-use Rattle.records.proofs.dot.Reads as reads
-use Rattle.records.proofs.dot.Lts as lts
-use Rattle.records.proofs.operation_of.Reads as operation-of-reads
 
--- src/lib.rt:130:17
 operation-of-requires : tie.Need-operation-of-requires
 operation-of-requires c κs = search needs
 
--- src/lib.rt:129:9
 returns : tie.Need-returns
 unfolding dotOf
 returns c = rw (c .operation-of .ensures, c .before .if1 .taken)
 
--- src/lib.rt:125:1
 returns-2 : tie.Need-returns-2
 unfolding dotOf
 returns-2 c = rw (c .if1 .left)

@@ -4,69 +4,70 @@ use Rattle.records.specs.Decode.{glyphOf, factorB}
 use borrow.Author.Needs.{needs}
 use Rattle.records.proofs.glyph.Statement.{statement}
 use Rattle.records.proofs.glyph.Tie as tie
-use Rattle.records.proofs.glyph.Reads as reads
-use Rattle.records.proofs.glyph.Lts as lts
-use Rattle.records.proofs.operation_of.Reads as operation-of-reads
 
--- src/lib.rt:164:20
 cast-if1 : tie.Need-cast-if1
 cast-if1 c = search needs
 
--- src/lib.rt:165:9
 returns : tie.Need-returns
 unfolding glyphOf
 returns c = rw (le-ltb _ _ (c .if1 .taken))
 
--- src/lib.rt:168:9
 returns-2 : tie.Need-returns-2
 unfolding glyphOf
-returns-2 c = rw (lt-ltb _ _ (c .before .before .before .if1 .left), not-true (factorB (c .before .before .before .before .before .before .args .r)) (c .if2 .taken))
+returns-2 c =
+    rw (
+      lt-ltb _ _ (c .before .before .before .if1 .left),
+      not-true (factorB (c .before .before .before .before .before .before .args .r)) (c .if2 .taken),
+    )
 
--- src/lib.rt:170:20
 cast-size : tie.Need-cast-size
 cast-size c = search needs
 
--- src/lib.rt:170:16
 mul-size : tie.Need-mul-size
 mul-size c = search needs
 
--- src/lib.rt:171:9
 cast-if3 : tie.Need-cast-if3
 cast-if3 c = search needs
 
--- src/lib.rt:171:9
 add-if3 : tie.Need-add-if3
 add-if3 c = search needs
 
--- src/lib.rt:171:30
 cast-if3-2 : tie.Need-cast-if3-2
 cast-if3-2 c = search needs
 
--- src/lib.rt:171:50
 cast-if3-3 : tie.Need-cast-if3-3
 cast-if3-3 c = search needs
 
--- src/lib.rt:171:50
 add-if3-2 : tie.Need-add-if3-2
 add-if3-2 c = search needs
 
--- src/lib.rt:171:71
 cast-if3-4 : tie.Need-cast-if3-4
 cast-if3-4 c = search needs
 
--- src/lib.rt:173:17
 operation-of-requires : tie.Need-operation-of-requires
 operation-of-requires c κs = search needs
 
--- src/lib.rt:172:9
 returns-3 : tie.Need-returns-3
 unfolding glyphOf
-returns-3 c = rw (lt-ltb _ _ (c .before .before .before .before .before .before .before .before .before .before .if1 .left), not-false (factorB (c .before .before .before .before .before .before .before .before .before .before .before .before .before .args .r)) (c .before .before .before .before .before .before .before .if2 .left), c .operation-of .ensures, c .before .if3 .taken)
+returns-3 c =
+    rw (
+      lt-ltb _ _ (c .before .before .before .before .before .before .before .before .before .before .if1 .left),
+      not-false (factorB
+          (c .before .before .before .before .before .before .before .before .before .before .before .before .before .args .r))
+          (c .before .before .before .before .before .before .before .if2 .left),
+      c .operation-of .ensures,
+      c .before .if3 .taken,
+    )
 
--- src/lib.rt:161:1
 returns-4 : tie.Need-returns-4
 unfolding glyphOf
-returns-4 c = rw (lt-ltb _ _ (c .before .before .before .before .before .before .before .before .before .if1 .left), not-false (factorB (c .before .before .before .before .before .before .before .before .before .before .before .before .args .r)) (c .before .before .before .before .before .before .if2 .left), c .if3 .left)
+returns-4 c =
+    rw (
+      lt-ltb _ _ (c .before .before .before .before .before .before .before .before .before .if1 .left),
+      not-false (factorB (c .before .before .before .before .before .before .before .before .before .before .before .before .args .r))
+          (c .before .before .before .before .before .before .if2 .left),
+      c .if3 .left,
+    )
 
 pub glyph-spec : {M : Type 1} → statement M
 glyph-spec =

@@ -3,20 +3,14 @@ use Rattle.records.specs.Decode.{lineOf}
 use borrow.Author.Needs.{needs}
 use Rattle.records.proofs.line.Statement.{statement}
 use Rattle.records.proofs.line.Tie as tie
-use Rattle.records.proofs.line.Reads as reads
-use Rattle.records.proofs.line.Lts as lts
-use Rattle.records.proofs.operation_of.Reads as operation-of-reads
 
--- src/lib.rt:142:17
 operation-of-requires : tie.Need-operation-of-requires
 operation-of-requires c κs = search needs
 
--- src/lib.rt:141:9
 returns : tie.Need-returns
 unfolding lineOf
 returns c = rw (c .operation-of .ensures, c .before .if1 .taken)
 
--- src/lib.rt:137:1
 returns-2 : tie.Need-returns-2
 unfolding lineOf
 returns-2 c = rw (c .if1 .left)

@@ -3,25 +3,19 @@ use borrow.Author.Tests.{eq-eqb, ne-eqb}
 use Rattle.records.specs.Decode.{operationOf}
 use Rattle.records.proofs.operation_of.Statement.{statement}
 use Rattle.records.proofs.operation_of.Tie as tie
-use Rattle.records.proofs.operation_of.Reads as reads
-use Rattle.records.proofs.operation_of.Lts as lts
 
--- src/lib.rt:103:9
 returns : tie.Need-returns
 unfolding operationOf
 returns c = rw (eq-eqb _ 0 (c .if1 .taken))
 
--- src/lib.rt:106:9
 returns-2 : tie.Need-returns-2
 unfolding operationOf
 returns-2 c = rw (ne-eqb _ 0 (c .before .if1 .left), eq-eqb _ 1 (c .if2 .taken))
 
--- src/lib.rt:109:9
 returns-3 : tie.Need-returns-3
 unfolding operationOf
 returns-3 c = rw (ne-eqb _ 0 (c .before .before .if1 .left), ne-eqb _ 1 (c .before .if2 .left), eq-eqb _ 2 (c .if3 .taken))
 
--- src/lib.rt:99:1
 returns-4 : tie.Need-returns-4
 unfolding operationOf
 returns-4 c = rw (ne-eqb _ 0 (c .before .before .if1 .left), ne-eqb _ 1 (c .before .if2 .left), ne-eqb _ 2 (c .if3 .left))

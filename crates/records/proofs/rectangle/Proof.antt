@@ -3,20 +3,14 @@ use Rattle.records.specs.Decode.{rectOf}
 use borrow.Author.Needs.{needs}
 use Rattle.records.proofs.rectangle.Statement.{statement}
 use Rattle.records.proofs.rectangle.Tie as tie
-use Rattle.records.proofs.rectangle.Reads as reads
-use Rattle.records.proofs.rectangle.Lts as lts
-use Rattle.records.proofs.operation_of.Reads as operation-of-reads
 
--- src/lib.rt:154:17
 operation-of-requires : tie.Need-operation-of-requires
 operation-of-requires c κs = search needs
 
--- src/lib.rt:153:9
 returns : tie.Need-returns
 unfolding rectOf
 returns c = rw (c .operation-of .ensures, c .before .if1 .taken)
 
--- src/lib.rt:149:1
 returns-2 : tie.Need-returns-2
 unfolding rectOf
 returns-2 c = rw (c .if1 .left)

@@ -2,24 +2,16 @@
 use borrow.Author.Needs.{needs}
 use Rattle.registers.proofs.buffer_fits.Statement.{statement}
 use Rattle.registers.proofs.buffer_fits.Tie as tie
-use Rattle.registers.proofs.buffer_fits.Reads as reads
-use Rattle.registers.proofs.buffer_fits.Lts as lts
-use Rattle.registers.proofs.entries_fit.Reads as entries-fit-reads
-use Rattle.registers.proofs.mark_of.Reads as mark-of-reads
 
--- src/lib.rt:240:9
 entries-fit-requires : tie.Need-entries-fit-requires
 entries-fit-requires c κs = search needs
 
--- src/lib.rt:241:37
 mark-of-requires : tie.Need-mark-of-requires
 mark-of-requires c κs = search needs
 
--- src/lib.rt:241:9
 entries-fit-requires-2 : tie.Need-entries-fit-requires-2
 entries-fit-requires-2 c κs = search needs
 
--- src/lib.rt:236:1
 returns : tie.Need-returns
 returns c = rw (c .before .entries-fit2 .ensures, c .before .before .mark-of .ensures, c .before .before .before .entries-fit .ensures)
 

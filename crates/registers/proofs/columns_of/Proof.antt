@@ -5,23 +5,17 @@ use Rattle.registers.specs.Size.{columnsOf}
 use borrow.Author.Needs.{needs}
 use Rattle.registers.proofs.columns_of.Statement.{statement}
 use Rattle.registers.proofs.columns_of.Tie as tie
-use Rattle.registers.proofs.columns_of.Reads as reads
-use Rattle.registers.proofs.columns_of.Lts as lts
-use Rattle.registers.proofs.factor_of.Reads as factor-of-reads
 
--- src/lib.rt:190:5
 cast-result : tie.Need-cast-result
 cast-result c = search needs
 
--- src/lib.rt:190:18
 factor-of-requires : tie.Need-factor-of-requires
 factor-of-requires c κs = search needs
 
--- src/lib.rt:190:5
 mul-result : tie.Need-mul-result
-mul-result c = omega (arith, times-factor (c .before .before .args .f .d) (c .before .before .args .zoom) (search needs) (c .factor-of .ensures))
+mul-result c =
+    omega (arith, times-factor (c .before .before .args .f .d) (c .before .before .args .zoom) (search needs) (c .factor-of .ensures))
 
--- src/lib.rt:187:1
 returns : tie.Need-returns
 unfolding columnsOf
 returns c = rw (c .factor-of .ensures)

@@ -4,56 +4,47 @@ use borrow.Author.Tests.{eq-eqb, ne-eqb}
 use borrow.Author.Needs.{needs}
 use Rattle.registers.proofs.dots_of.Statement.{statement}
 use Rattle.registers.proofs.dots_of.Tie as tie
-use Rattle.registers.proofs.dots_of.Reads as reads
-use Rattle.registers.proofs.dots_of.Lts as lts
 
--- src/lib.rt:161:16
 cast-result : tie.Need-cast-result
 cast-result c = search needs
 
--- src/lib.rt:161:16
 add-result : tie.Need-add-result
 add-result c = search needs
 
--- src/lib.rt:161:9
 returns : tie.Need-returns
 unfolding dotsOf
 returns c = rw (c .before .if1 .taken)
 
--- src/lib.rt:164:16
 cast-result-2 : tie.Need-cast-result-2
 cast-result-2 c = search needs
 
--- src/lib.rt:164:29
 cast-result-3 : tie.Need-cast-result-3
 cast-result-3 c = search needs
 
--- src/lib.rt:164:16
 add-result-2 : tie.Need-add-result-2
 add-result-2 c = search needs
 
--- src/lib.rt:164:43
 cast-result-4 : tie.Need-cast-result-4
 cast-result-4 c = search needs
 
--- src/lib.rt:164:16
 add-result-3 : tie.Need-add-result-3
 add-result-3 c = search needs
 
--- src/lib.rt:164:56
 cast-result-5 : tie.Need-cast-result-5
 cast-result-5 c = search needs
 
--- src/lib.rt:164:16
 add-result-4 : tie.Need-add-result-4
 add-result-4 c = search needs
 
--- src/lib.rt:164:9
 returns-2 : tie.Need-returns-2
 unfolding dotsOf
-returns-2 c = rw (c .before .before .before .before .before .before .if1 .left, eq-eqb (c .before .before .before .before .before .before .before .before .before .args .f .kind) 8 (c .before .before .before .before .if2 .taken))
+returns-2 c =
+    rw (
+      c .before .before .before .before .before .before .if1 .left,
+      eq-eqb (c .before .before .before .before .before .before .before .before .before .args .f .kind) 8
+          (c .before .before .before .before .if2 .taken),
+    )
 
--- src/lib.rt:157:1
 returns-3 : tie.Need-returns-3
 unfolding dotsOf
 returns-3 c = rw (c .before .before .if1 .left, ne-eqb (c .before .before .before .before .before .args .f .kind) 8 (c .if2 .left))

@@ -2,8 +2,6 @@
 use mathlib.Core.Path.{refl}
 use Rattle.registers.proofs.drawing_fits.Statement.{statement}
 use Rattle.registers.proofs.drawing_fits.Tie as tie
-use Rattle.registers.proofs.drawing_fits.Reads as reads
-use Rattle.registers.proofs.drawing_fits.Lts as lts
 
 returns : tie.Need-returns
 returns c = refl

@@ -2,14 +2,11 @@
 use Rattle.registers.proofs.BufferLaws.{fit-starts, fit-fails, fit-goes-on, fit-ends}
 use Rattle.registers.specs.Sound.{allBelow}
 use borrow.Author.Needs.{needs}
-use lib.ListN.{length, take, drop}
-use native.Mathlib.Omega.{arith}
+use lib.ListN.{take, drop}
 use Prim.Native.Nat.{_≤_, _-_}
-use mathlib.Core.Path.{_≡_, refl, _∙_, sym}
+use mathlib.Core.Path.{_≡_, _∙_, sym}
 use Rattle.registers.proofs.entries_fit.Statement.{statement}
 use Rattle.registers.proofs.entries_fit.Tie as tie
-use Rattle.registers.proofs.entries_fit.Reads as reads
-use Rattle.registers.proofs.entries_fit.Lts as lts
 
 abbrev Inv-loop : tie.InvT-loop
 Inv-loop below n entries held i₀ i = (i ≤ 16) × (allBelow below (take n entries) ≡ allBelow below (take (n - i) (drop i entries)))
@@ -17,35 +14,28 @@ Inv-loop below n entries held i₀ i = (i ≤ 16) × (allBelow below (take n ent
 abbrev μ-loop : tie.MeasureT-loop
 μ-loop below n entries held i₀ i = 16 - i
 
--- src/lib.rt:217:5
 loop-holds : tie.Need-loop-holds Inv-loop μ-loop
 loop-holds c = (search needs, fit-starts (c .args .below) (c .args .n) (c .args .t1))
 
--- src/lib.rt:218:35
 mul-if1 : tie.Need-mul-if1 Inv-loop μ-loop
 mul-if1 c = search needs
 
--- src/lib.rt:218:35
 array-read-if1 : tie.Need-array-read-if1 Inv-loop μ-loop
 array-read-if1 c = search needs
 
--- src/lib.rt:219:13
 returns : tie.Need-returns Inv-loop μ-loop
 returns c = sym (c .before .before .loop .inv .1 ∙ fit-fails _ _ _ (c .before .before .loop .i) (search needs) (c .if1 .taken))
 
--- src/lib.rt:221:9
 add-i : tie.Need-add-i Inv-loop μ-loop
 add-i c = search needs
 
--- src/lib.rt:217:5
 loop-less : tie.Need-loop-less Inv-loop μ-loop
 loop-less c = search needs
 
--- src/lib.rt:217:5
 loop-again : tie.Need-loop-again Inv-loop μ-loop
-loop-again c = (search needs, c .before .before .loop .inv .1 ∙ fit-goes-on _ _ _ (c .before .before .loop .i) (search needs) (c .if1 .left))
+loop-again c =
+    (search needs, c .before .before .loop .inv .1 ∙ fit-goes-on _ _ _ (c .before .before .loop .i) (search needs) (c .if1 .left))
 
--- src/lib.rt:212:1
 returns-2 : tie.Need-returns-2 Inv-loop μ-loop
 returns-2 c = sym (c .before .loop .inv .1 ∙ fit-ends _ _ _ (c .before .loop .i) (search needs))
 

@@ -4,14 +4,10 @@ use mathlib.Core.Path.{refl}
 use borrow.Author.Needs.{needs}
 use Rattle.registers.proofs.factor_of.Statement.{statement}
 use Rattle.registers.proofs.factor_of.Tie as tie
-use Rattle.registers.proofs.factor_of.Reads as reads
-use Rattle.registers.proofs.factor_of.Lts as lts
 
--- src/lib.rt:173:5
 add-result : tie.Need-add-result
 add-result c = search needs
 
--- src/lib.rt:170:1
 returns : tie.Need-returns
 unfolding factorOf
 returns c = refl

@@ -3,10 +3,7 @@ use Rattle.registers.specs.Fresh.{freshSet}
 use mathlib.Core.Path.{refl}
 use Rattle.registers.proofs.fresh.Statement.{statement}
 use Rattle.registers.proofs.fresh.Tie as tie
-use Rattle.registers.proofs.fresh.Reads as reads
-use Rattle.registers.proofs.fresh.Lts as lts
 
--- src/lib.rt:113:1
 returns : tie.Need-returns
 unfolding freshSet
 returns c = refl

@@ -2,58 +2,46 @@
 use borrow.Author.Needs.{needs}
 use Rattle.registers.proofs.place_fits.Statement.{statement}
 use Rattle.registers.proofs.place_fits.Tie as tie
-use Rattle.registers.proofs.place_fits.Reads as reads
-use Rattle.registers.proofs.place_fits.Lts as lts
-use Rattle.registers.proofs.columns_of.Reads as columns-of-reads
-use Rattle.registers.proofs.cursor_fits.Reads as cursor-fits-reads
-use Rattle.registers.proofs.dots_of.Reads as dots-of-reads
-use Rattle.registers.proofs.rows_of.Reads as rows-of-reads
 
--- src/lib.rt:249:23
 enum-told : tie.Need-enum-told
 enum-told c = search needs
 
--- src/lib.rt:250:24
 enum-known-w : tie.Need-enum-known-w
 enum-known-w c = search needs
 
--- src/lib.rt:250:43
 dots-of-requires : tie.Need-dots-of-requires
 dots-of-requires c κs = search needs
 
--- src/lib.rt:251:27
 enum-known-w-2 : tie.Need-enum-known-w-2
 enum-known-w-2 c = search needs
 
--- src/lib.rt:252:20
 rows-of-requires : tie.Need-rows-of-requires
 rows-of-requires c κs = search needs
 
--- src/lib.rt:252:50
 columns-of-requires : tie.Need-columns-of-requires
 columns-of-requires c κs = search needs
 
--- src/lib.rt:252:73
 cursor-fits-requires : tie.Need-cursor-fits-requires
 cursor-fits-requires c κs = search needs
 
--- src/lib.rt:254:25
 enum-known-w-3 : tie.Need-enum-known-w-3
 enum-known-w-3 c = search needs
 
--- src/lib.rt:245:1
 returns : tie.Need-returns
 returns c = search needs
 
--- src/lib.rt:245:1
 returns-2 : tie.Need-returns-2
 returns-2 c = rw (c .dots-of .ensures, c .before .before .w .given .1)
 
--- src/lib.rt:245:1
 returns-3 : tie.Need-returns-3
-returns-3 c = rw (c .cursor-fits .ensures, c .before .columns-of .ensures, c .before .before .rows-of .ensures, c .before .before .before .before .w2 .given .1)
+returns-3 c =
+    rw (
+      c .cursor-fits .ensures,
+      c .before .columns-of .ensures,
+      c .before .before .rows-of .ensures,
+      c .before .before .before .before .w2 .given .1,
+    )
 
--- src/lib.rt:245:1
 returns-4 : tie.Need-returns-4
 returns-4 c = rw (c .before .before .w3 .given .1)
 

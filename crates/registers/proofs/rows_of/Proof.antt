@@ -7,32 +7,28 @@ use Prim.Native.Nat.{_+_}
 use borrow.Author.Needs.{needs}
 use Rattle.registers.proofs.rows_of.Statement.{statement}
 use Rattle.registers.proofs.rows_of.Tie as tie
-use Rattle.registers.proofs.rows_of.Reads as reads
-use Rattle.registers.proofs.rows_of.Lts as lts
-use Rattle.registers.proofs.factor_of.Reads as factor-of-reads
 
--- src/lib.rt:181:17
 cast-result : tie.Need-cast-result
 cast-result c = search needs
 
--- src/lib.rt:181:17
 add-result : tie.Need-add-result
 add-result c = search needs
 
--- src/lib.rt:181:36
 factor-of-requires : tie.Need-factor-of-requires
 factor-of-requires c κs = search needs
 
--- src/lib.rt:181:16
 mul-result : tie.Need-mul-result
-mul-result c = omega (arith, times-factor (c .before .before .before .before .args .f .dc + 1) (c .before .before .before .before .args .zoom) (search needs) (c .factor-of .ensures))
+mul-result c =
+    omega (
+      arith,
+      times-factor (c .before .before .before .before .args .f .dc + 1) (c .before .before .before .before .args .zoom)
+          (search needs) (c .factor-of .ensures),
+    )
 
--- src/lib.rt:181:9
 returns : tie.Need-returns
 unfolding rowsOf
 returns c = rw (c .factor-of .ensures, eq-eqb (c .before .before .before .before .args .f .kind) 2 (c .before .before .if1 .taken))
 
--- src/lib.rt:177:1
 returns-2 : tie.Need-returns-2
 unfolding rowsOf
 returns-2 c = rw (ne-eqb (c .before .before .args .f .kind) 2 (c .if1 .left))

@@ -8,9 +8,6 @@ use Rattle.script.proofs.Laws.{bytes-odd, bytes-start, digits-fail, dig
 use Rattle.script.specs.Digits.{digitsB, bytesB}
 use Rattle.script.proofs.bytes_right.Statement.{statement}
 use Rattle.script.proofs.bytes_right.Tie as tie
-use Rattle.script.proofs.bytes_right.Reads as reads
-use Rattle.script.proofs.bytes_right.Lts as lts
-use Rattle.script.proofs.digit_of.Reads as digit-of-reads
 
 abbrev Inv-loop : tie.InvT-loop
 Inv-loop s i₀ i = (i ≤ length s) × (bytesB s ≡ digitsB (drop i s))
@@ -35,7 +32,9 @@ digit-of-requires : tie.Need-digit-of-requires Inv-loop μ-loop
 digit-of-requires c κs = search needs
 
 returns-3 : tie.Need-returns-3 Inv-loop μ-loop
-returns-3 c = sym (c .before .before .before .before .loop .inv .1 ∙ digits-fail _ _ (c .before .before .before .loop-test .taken) (c .before .digit-of .ensures) (c .if3 .taken))
+returns-3 c =
+    sym (c .before .before .before .before .loop .inv .1
+    ∙ digits-fail _ _ (c .before .before .before .loop-test .taken) (c .before .digit-of .ensures) (c .if3 .taken))
 
 add-i : tie.Need-add-i Inv-loop μ-loop
 add-i c = search needs
@@ -44,7 +43,11 @@ loop-less : tie.Need-loop-less Inv-loop μ-loop
 loop-less c = search needs
 
 loop-again : tie.Need-loop-again Inv-loop μ-loop
-loop-again c = (search needs, c .before .before .before .before .loop .inv .1 ∙ digits-go-on _ _ (c .before .before .before .loop-test .taken) (c .before .digit-of .ensures) (c .if3 .left))
+loop-again c = (
+  search needs,
+  c .before .before .before .before .loop .inv .1
+      ∙ digits-go-on _ _ (c .before .before .before .loop-test .taken) (c .before .digit-of .ensures) (c .if3 .left),
+)
 
 returns-4 : tie.Need-returns-4 Inv-loop μ-loop
 returns-4 c = sym (c .before .loop .inv .1 ∙ digits-end _ _ (c .loop-test .left))

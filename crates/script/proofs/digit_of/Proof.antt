@@ -4,8 +4,6 @@ use borrow.Author.Needs.{needs}
 use Rattle.script.specs.Digits.{digitOf}
 use Rattle.script.proofs.digit_of.Statement.{statement}
 use Rattle.script.proofs.digit_of.Tie as tie
-use Rattle.script.proofs.digit_of.Reads as reads
-use Rattle.script.proofs.digit_of.Lts as lts
 
 returns : tie.Need-returns
 unfolding digitOf
@@ -24,11 +22,23 @@ sub-result c = search needs
 
 returns-4 : tie.Need-returns-4
 unfolding digitOf
-returns-4 c = rw (le-ltb _ 48 (c .before .before .before .if1 .left), le-ltb _ 58 (c .before .before .if2 .left), le-ltb _ 65 (c .before .if3 .left), lt-ltb _ 71 (c .if4 .taken))
+returns-4 c =
+    rw (
+      le-ltb _ 48 (c .before .before .before .if1 .left),
+      le-ltb _ 58 (c .before .before .if2 .left),
+      le-ltb _ 65 (c .before .if3 .left),
+      lt-ltb _ 71 (c .if4 .taken),
+    )
 
 returns-5 : tie.Need-returns-5
 unfolding digitOf
-returns-5 c = rw (le-ltb _ 48 (c .before .before .before .if1 .left), le-ltb _ 58 (c .before .before .if2 .left), le-ltb _ 65 (c .before .if3 .left), le-ltb _ 71 (c .if4 .left))
+returns-5 c =
+    rw (
+      le-ltb _ 48 (c .before .before .before .if1 .left),
+      le-ltb _ 58 (c .before .before .if2 .left),
+      le-ltb _ 65 (c .before .if3 .left),
+      le-ltb _ 71 (c .if4 .left),
+    )
 
 pub digit-of-spec : {M : Type 1} → statement M
 digit-of-spec = tie.close (tie.spec returns returns-2 returns-3 sub-result returns-4 returns-5)

@@ -1,18 +1,10 @@
 -- `fields` gives `fieldsOf`: the same test, on what the calls answer.
-use borrow.Author.Tests.{eq-eqb, ne-eqb}
 use borrow.Table.Elements.{length-take-le}
-use mathlib.Core.Path.{_≡_, sym, _∙_}
+use mathlib.Core.Path.{sym}
 use borrow.Author.Needs.{needs}
 use Rattle.script.proofs.LineLaws.{fields-one, fields-two}
-use Rattle.script.specs.Line.{fieldsOf}
 use Rattle.script.proofs.fields.Statement.{statement}
 use Rattle.script.proofs.fields.Tie as tie
-use Rattle.script.proofs.fields.Reads as reads
-use Rattle.script.proofs.fields.Lts as lts
-use Rattle.script.proofs.end_of.Reads as end-of-reads
-use Rattle.script.proofs.number_of.Reads as number-of-reads
-use Rattle.script.proofs.one_field.Reads as one-field-reads
-use Rattle.script.proofs.two_fields.Reads as two-fields-reads
 
 end-of-requires : tie.Need-end-of-requires
 end-of-requires c κs = search needs
@@ -24,7 +16,8 @@ one-field-requires : tie.Need-one-field-requires
 one-field-requires c κs = search needs
 
 returns : tie.Need-returns
-returns c = fields-one _ _ (c .before .before .before .end-of .ensures .1) (c .before .before .if1 .taken) (c .before .number-of .ensures) (c .one-field .ensures)
+returns c = fields-one _ _ (c .before .before .before .end-of .ensures .1) (c .before .before .if1 .taken) (c .before .number-of .ensures)
+    (c .one-field .ensures)
 
 add-next : tie.Need-add-next
 add-next c = search needs
@@ -51,7 +44,10 @@ two-fields-requires : tie.Need-two-fields-requires
 two-fields-requires c κs = search needs
 
 returns-2 : tie.Need-returns-2
-returns-2 c = fields-two _ _ (c .before .before .before .before .before .before .end-of .ensures .1) (c .before .before .before .before .before .if1 .left) (c .before .before .before .number-of2 .ensures) (c .before .number-of3 .ensures) (c .two-fields .ensures)
+returns-2 c =
+    fields-two _ _ (c .before .before .before .before .before .before .end-of .ensures .1)
+    (c .before .before .before .before .before .if1 .left) (c .before .before .before .number-of2 .ensures)
+    (c .before .number-of3 .ensures) (c .two-fields .ensures)
 
 pub fields-spec : {M : Type 1} → statement M
 fields-spec =

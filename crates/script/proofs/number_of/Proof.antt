@@ -8,10 +8,6 @@ use Rattle.script.proofs.Laws.{number-starts, number-fails, number-goes
 use Rattle.script.specs.Digits.{numberFrom, numberOf}
 use Rattle.script.proofs.number_of.Statement.{statement}
 use Rattle.script.proofs.number_of.Tie as tie
-use Rattle.script.proofs.number_of.Reads as reads
-use Rattle.script.proofs.number_of.Lts as lts
-use Rattle.script.proofs.digit_of.Reads as digit-of-reads
-use Rattle.script.proofs.with_digit.Reads as with-digit-reads
 
 abbrev Inv-loop : tie.InvT-loop
 Inv-loop s n₀ i₀ n i = (i ≤ length s) × (numberOf s ≡ numberFrom n (drop i s))
@@ -33,7 +29,9 @@ digit-of-requires : tie.Need-digit-of-requires Inv-loop μ-loop
 digit-of-requires c κs = search needs
 
 returns-2 : tie.Need-returns-2 Inv-loop μ-loop
-returns-2 c = sym (c .before .before .before .before .loop .inv .1 ∙ number-fails _ _ _ (c .before .before .before .loop-test .taken) (c .before .digit-of .ensures) (c .if2 .taken))
+returns-2 c =
+    sym (c .before .before .before .before .loop .inv .1
+    ∙ number-fails _ _ _ (c .before .before .before .loop-test .taken) (c .before .digit-of .ensures) (c .if2 .taken))
 
 with-digit-requires : tie.Need-with-digit-requires Inv-loop μ-loop
 with-digit-requires c κs = search needs
@@ -45,7 +43,12 @@ loop-less : tie.Need-loop-less Inv-loop μ-loop
 loop-less c = search needs
 
 loop-again : tie.Need-loop-again Inv-loop μ-loop
-loop-again c = (search needs, c .before .before .before .before .before .loop .inv .1 ∙ number-goes-on _ _ _ (c .before .before .before .before .loop-test .taken) (c .before .before .digit-of .ensures) (c .before .if2 .left) (c .with-digit .ensures))
+loop-again c = (
+  search needs,
+  c .before .before .before .before .before .loop .inv .1
+      ∙ number-goes-on _ _ _ (c .before .before .before .before .loop-test .taken) (c .before .before .digit-of .ensures)
+      (c .before .if2 .left) (c .with-digit .ensures),
+)
 
 returns-3 : tie.Need-returns-3 Inv-loop μ-loop
 returns-3 c = sym (c .before .loop .inv .1 ∙ number-ends _ _ _ (c .loop-test .left))

@@ -3,8 +3,6 @@ use borrow.Author.Needs.{needs}
 use Rattle.script.specs.Line.{oneOf}
 use Rattle.script.proofs.one_field.Statement.{statement}
 use Rattle.script.proofs.one_field.Tie as tie
-use Rattle.script.proofs.one_field.Reads as reads
-use Rattle.script.proofs.one_field.Lts as lts
 
 enum-told : tie.Need-enum-told
 enum-told c = search needs

@@ -7,9 +7,6 @@ use Rattle.script.specs.Digits.{bytesPut}
 use Rattle.script.proofs.BytesLaws.{put-full, put-goes-on, put-ends}
 use Rattle.script.proofs.put_bytes.Statement.{statement}
 use Rattle.script.proofs.put_bytes.Tie as tie
-use Rattle.script.proofs.put_bytes.Reads as reads
-use Rattle.script.proofs.put_bytes.Lts as lts
-use Rattle.script.proofs.byte_of.Reads as byte-of-reads
 
 abbrev Inv-loop : tie.InvT-loop
 Inv-loop s to₀ from i₀ at₀ to i at = (i ≤ length s) × (length to ≡ length to₀) × (bytesPut to₀ from s ≡ bytesPut to at (drop i s))
@@ -54,7 +51,13 @@ loop-less : tie.Need-loop-less Inv-loop μ-loop
 loop-less c = search needs
 
 loop-again : tie.Need-loop-again Inv-loop μ-loop
-loop-again c = (search needs, search needs, c .before .before .before .before .before .loop .inv .2 ∙ put-goes-on _ _ _ _ (c .before .before .before .before .loop-test .taken) (c .before .before .before .if1 .left) (c .byte-of .ensures))
+loop-again c = (
+  search needs,
+  search needs,
+  c .before .before .before .before .before .loop .inv .2
+      ∙ put-goes-on _ _ _ _ (c .before .before .before .before .loop-test .taken) (c .before .before .before .if1 .left)
+      (c .byte-of .ensures),
+)
 
 same-length-2 : tie.Need-same-length-2 Inv-loop μ-loop
 same-length-2 c = search needs

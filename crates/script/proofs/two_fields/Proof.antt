@@ -3,8 +3,6 @@ use borrow.Author.Needs.{needs}
 use Rattle.script.specs.Line.{twoOf, secondOf}
 use Rattle.script.proofs.two_fields.Statement.{statement}
 use Rattle.script.proofs.two_fields.Tie as tie
-use Rattle.script.proofs.two_fields.Reads as reads
-use Rattle.script.proofs.two_fields.Lts as lts
 
 enum-known-a : tie.Need-enum-known-a
 enum-known-a c = search needs

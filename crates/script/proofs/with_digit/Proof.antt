@@ -4,8 +4,6 @@ use borrow.Author.Needs.{needs}
 use Rattle.script.specs.Digits.{more}
 use Rattle.script.proofs.with_digit.Statement.{statement}
 use Rattle.script.proofs.with_digit.Tie as tie
-use Rattle.script.proofs.with_digit.Reads as reads
-use Rattle.script.proofs.with_digit.Lts as lts
 
 returns : tie.Need-returns
 unfolding more

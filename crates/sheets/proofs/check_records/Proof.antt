@@ -10,9 +10,6 @@ use Rattle.sheets.specs.Slots.{sized, figures, figuresFrom, slotAnswer, 
 use Rattle.sheets.proofs.SlotLaws.{slot-small, records-stop, records-go-on, records-end, records-start, figures-start, need-goes-on}
 use Rattle.sheets.proofs.check_records.Statement.{statement}
 use Rattle.sheets.proofs.check_records.Tie as tie
-use Rattle.sheets.proofs.check_records.Reads as reads
-use Rattle.sheets.proofs.check_records.Lts as lts
-use Rattle.sheets.proofs.measure.Reads as measure-reads
 
 record Going (s : List ℕ) (n : ℕ) (m : Room) (need k : ℕ) : Type 0 where
   within : k ≤ 50 * n
@@ -26,43 +23,40 @@ Inv-loop s n m need₀ k₀ need k = Going s n m need k
 abbrev μ-loop : tie.MeasureT-loop
 μ-loop s n m need₀ k₀ need k = 50 * n - k
 
--- src/lib.rt:54:5
 loop-holds : tie.Need-loop-holds Inv-loop μ-loop
-loop-holds c = record { within = omega arith; small = omega arith; first = records-start _ _ _ 0; total = ap (λ f. 2 + sized f) (figures-start _ _ _ 0) }
+loop-holds c =
+    record {
+      within = omega arith;
+      small = omega arith;
+      first = records-start _ _ _ 0;
+      total = ap (λ f. 2 + sized f) (figures-start _ _ _ 0);
+    }
 
--- src/lib.rt:54:15
 mul-loop : tie.Need-mul-loop Inv-loop μ-loop
 mul-loop c = search needs
 
--- src/lib.rt:55:13
 measure-requires : tie.Need-measure-requires Inv-loop μ-loop
 measure-requires c κs = search needs
 
--- src/lib.rt:59:24
 cast-t11 : tie.Need-cast-t11 Inv-loop μ-loop
 cast-t11 c = search needs
 
--- src/lib.rt:60:25
 cast-t13 : tie.Need-cast-t13 Inv-loop μ-loop
 cast-t13 c = search needs
 
--- src/lib.rt:57:13
 returns : tie.Need-returns Inv-loop μ-loop
-returns c = records-stop _ _ _ _ (c .before .before .before .loop-test .taken) (c .before .before .measure .ensures) (c .if1 .taken) (c .before .before .before .before .loop .inv .first)
+returns c = records-stop _ _ _ _ (c .before .before .before .loop-test .taken) (c .before .before .measure .ensures) (c .if1 .taken)
+    (c .before .before .before .before .loop .inv .first)
 
--- src/lib.rt:63:9
 add-need : tie.Need-add-need Inv-loop μ-loop
 add-need c = omega (arith, slot-small _ _ _ (ap (λ x. x .entries) (c .before .before .before .measure .ensures)))
 
--- src/lib.rt:64:9
 add-k : tie.Need-add-k Inv-loop μ-loop
 add-k c = search needs
 
--- src/lib.rt:54:5
 loop-less : tie.Need-loop-less Inv-loop μ-loop
 loop-less c = search needs
 
--- src/lib.rt:54:5
 loop-again : tie.Need-loop-again Inv-loop μ-loop
 loop-again c = let l = c .before .before .before .before .before .loop in
     let e = c .before .before .before .measure .ensures in
@@ -73,7 +67,6 @@ loop-again c = let l = c .before .before .before .before .before .loop in
       total = l .inv .total ∙ need-goes-on _ _ _ _ _ (c .before .before .before .before .loop-test .taken) e;
     }
 
--- src/lib.rt:49:1
 returns-2 : tie.Need-returns-2 Inv-loop μ-loop
 returns-2 c = records-end _ _ _ _ (c .loop-test .left) (c .before .loop .inv .first) (c .before .loop .inv .total)
 

@@ -5,33 +5,39 @@ use Rattle.sheets.specs.Sheet.{frameRefusal, tableB, lengthB}
 use borrow.Author.Needs.{needs}
 use Rattle.sheets.proofs.frame_refusal.Statement.{statement}
 use Rattle.sheets.proofs.frame_refusal.Tie as tie
-use Rattle.sheets.proofs.frame_refusal.Reads as reads
-use Rattle.sheets.proofs.frame_refusal.Lts as lts
-use Rattle.sheets.proofs.plane_fits.Reads as plane-fits-reads
 
--- src/lib.rt:112:9
 plane-fits-requires : tie.Need-plane-fits-requires
 plane-fits-requires c κs = search needs
 
--- src/lib.rt:113:9
 returns : tie.Need-returns
 unfolding frameRefusal
 returns c = rw (sym (c .before .plane-fits .ensures) ∙ not-true _ (c .if1 .taken))
 
--- src/lib.rt:116:9
 returns-2 : tie.Need-returns-2
 unfolding frameRefusal
-returns-2 c = rw (sym (c .before .before .plane-fits .ensures) ∙ not-false _ (c .before .if1 .left), not-true (tableB (c .before .before .before .args .g)) (c .if2 .taken))
+returns-2 c =
+    rw (
+      sym (c .before .before .plane-fits .ensures) ∙ not-false _ (c .before .if1 .left),
+      not-true (tableB (c .before .before .before .args .g)) (c .if2 .taken),
+    )
 
--- src/lib.rt:119:9
 returns-3 : tie.Need-returns-3
 unfolding frameRefusal
-returns-3 c = rw (sym (c .before .before .before .plane-fits .ensures) ∙ not-false _ (c .before .before .if1 .left), not-false (tableB (c .before .before .before .before .args .g)) (c .before .if2 .left), not-true (lengthB (c .before .before .before .before .args .l)) (c .if3 .taken))
+returns-3 c =
+    rw (
+      sym (c .before .before .before .plane-fits .ensures) ∙ not-false _ (c .before .before .if1 .left),
+      not-false (tableB (c .before .before .before .before .args .g)) (c .before .if2 .left),
+      not-true (lengthB (c .before .before .before .before .args .l)) (c .if3 .taken),
+    )
 
--- src/lib.rt:109:1
 returns-4 : tie.Need-returns-4
 unfolding frameRefusal
-returns-4 c = rw (sym (c .before .before .before .plane-fits .ensures) ∙ not-false _ (c .before .before .if1 .left), not-false (tableB (c .before .before .before .before .args .g)) (c .before .if2 .left), not-false (lengthB (c .before .before .before .before .args .l)) (c .if3 .left))
+returns-4 c =
+    rw (
+      sym (c .before .before .before .plane-fits .ensures) ∙ not-false _ (c .before .before .if1 .left),
+      not-false (tableB (c .before .before .before .before .args .g)) (c .before .if2 .left),
+      not-false (lengthB (c .before .before .before .before .args .l)) (c .if3 .left),
+    )
 
 pub frame-refusal-spec : {M : Type 1} → statement M
 frame-refusal-spec = tie.close (tie.spec plane-fits-requires returns returns-2 returns-3 returns-4)

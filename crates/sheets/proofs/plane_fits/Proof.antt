@@ -5,14 +5,12 @@ use native.Mathlib.Nat.{mul-le-mul}
 use borrow.Author.Needs.{needs}
 use Rattle.sheets.proofs.plane_fits.Statement.{statement}
 use Rattle.sheets.proofs.plane_fits.Tie as tie
-use Rattle.sheets.proofs.plane_fits.Reads as reads
-use Rattle.sheets.proofs.plane_fits.Lts as lts
 
--- src/lib.rt:104:16
 mul-area : tie.Need-mul-area
-mul-area c = let h : c .args .p * c .args .h ≤ 4294967295 * 4294967295 = mul-le-mul {n₂ = 4294967295} {m₂ = 4294967295} (search needs) (search needs) in omega arith
+mul-area c =
+    let h : c .args .p * c .args .h ≤ 4294967295 * 4294967295 =
+    mul-le-mul {n₂ = 4294967295} {m₂ = 4294967295} (search needs) (search needs) in omega arith
 
--- src/lib.rt:101:1
 returns : tie.Need-returns
 returns c = search needs
 

@@ -4,81 +4,78 @@ use Rattle.sheets.proofs.SheetLaws.{framed, way-frame, way-checked, way
 use borrow.Author.Needs.{needs}
 use Rattle.sheets.proofs.translate.Statement.{statement}
 use Rattle.sheets.proofs.translate.Tie as tie
-use Rattle.sheets.proofs.translate.Reads as reads
-use Rattle.sheets.proofs.translate.Lts as lts
-use Rattle.blocks.proofs.check_blocks.Reads as check-blocks-reads
-use Rattle.blocks.proofs.first_refusal.Reads as first-refusal-reads
-use Rattle.sheets.proofs.check_records.Reads as check-records-reads
-use Rattle.sheets.proofs.frame_refusal.Reads as frame-refusal-reads
-use Rattle.sheets.proofs.write_out.Reads as write-out-reads
 
--- src/lib.rt:128:9
 frame-refusal-requires : tie.Need-frame-refusal-requires
 frame-refusal-requires c κs = search needs
 
--- src/lib.rt:130:9
 returns : tie.Need-returns
 returns c = way-frame _ _ _ _ _ (c .before .frame-refusal .ensures) (c .if1 .taken)
 
--- src/lib.rt:136:13
 cast-n : tie.Need-cast-n
 cast-n c = omega (arith, framed _ _ _ _ (c .before .frame-refusal .ensures) (c .if1 .left))
 
--- src/lib.rt:138:18
 mul-t15 : tie.Need-mul-t15
 mul-t15 c = omega (arith, framed _ _ _ _ (c .before .frame-refusal .ensures) (c .if1 .left))
 
--- src/lib.rt:138:17
 cast-t16 : tie.Need-cast-t16
 cast-t16 c = omega (arith, framed _ _ _ _ (c .before .frame-refusal .ensures) (c .if1 .left))
 
--- src/lib.rt:139:15
 cast-t17 : tie.Need-cast-t17
 cast-t17 c = omega (arith, framed _ _ _ _ (c .before .frame-refusal .ensures) (c .if1 .left))
 
--- src/lib.rt:140:17
 cast-t18 : tie.Need-cast-t18
 cast-t18 c = omega (arith, framed _ _ _ _ (c .before .frame-refusal .ensures) (c .if1 .left))
 
--- src/lib.rt:142:9
 check-blocks-requires : tie.Need-check-blocks-requires
 check-blocks-requires c κs = search needs
 
--- src/lib.rt:143:9
 check-records-requires : tie.Need-check-records-requires
 check-records-requires c κs = search needs
 
--- src/lib.rt:144:9
 first-refusal-requires : tie.Need-first-refusal-requires
 first-refusal-requires c κs = search needs
 
--- src/lib.rt:146:9
 returns-2 : tie.Need-returns-2
-returns-2 c = way-checked _ _ _ _ _ (c .before .before .before .before .before .before .frame-refusal .ensures) (c .before .before .before .before .before .if1 .left) (c .before .before .before .before .check-blocks .ensures) (c .before .before .before .check-records .ensures) (c .before .before .first-refusal .ensures) (c .if2 .taken)
+returns-2 c =
+    way-checked _ _ _ _ _ (c .before .before .before .before .before .before .frame-refusal .ensures)
+    (c .before .before .before .before .before .if1 .left) (c .before .before .before .before .check-blocks .ensures)
+    (c .before .before .before .check-records .ensures) (c .before .before .first-refusal .ensures) (c .if2 .taken)
 
--- src/lib.rt:148:20
 cast-if3 : tie.Need-cast-if3
 cast-if3 c = search needs
 
--- src/lib.rt:149:9
 returns-3 : tie.Need-returns-3
-returns-3 c = way-short _ _ _ _ _ (c .before .before .before .before .before .before .before .before .frame-refusal .ensures) (c .before .before .before .before .before .before .before .if1 .left) (c .before .before .before .before .before .before .check-blocks .ensures) (c .before .before .before .before .before .check-records .ensures) (c .before .before .before .before .first-refusal .ensures) (c .before .before .if2 .left) (c .if3 .taken)
+returns-3 c =
+    way-short _ _ _ _ _ (c .before .before .before .before .before .before .before .before .frame-refusal .ensures)
+    (c .before .before .before .before .before .before .before .if1 .left)
+    (c .before .before .before .before .before .before .check-blocks .ensures)
+    (c .before .before .before .before .before .check-records .ensures)
+    (c .before .before .before .before .first-refusal .ensures) (c .before .before .if2 .left) (c .if3 .taken)
 
--- src/lib.rt:155:32
 cast-write-out : tie.Need-cast-write-out
-cast-write-out c = omega (arith, framed _ _ _ _ (c .before .before .before .before .before .before .before .before .before .frame-refusal .ensures) (c .before .before .before .before .before .before .before .before .if1 .left))
+cast-write-out c =
+    omega (
+      arith,
+      framed _ _ _ _ (c .before .before .before .before .before .before .before .before .before .frame-refusal .ensures)
+          (c .before .before .before .before .before .before .before .before .if1 .left),
+    )
 
--- src/lib.rt:155:5
 write-out-requires : tie.Need-write-out-requires
 write-out-requires c κs = search needs
 
--- src/lib.rt:125:1
 same-length : tie.Need-same-length
 same-length c = search needs
 
--- src/lib.rt:125:1
 returns-4 : tie.Need-returns-4
-returns-4 c = way-done _ _ _ _ _ (c .before .before .before .before .before .before .before .before .before .before .before .before .frame-refusal .ensures) (c .before .before .before .before .before .before .before .before .before .before .before .if1 .left) (c .before .before .before .before .before .before .before .before .before .before .check-blocks .ensures) (c .before .before .before .before .before .before .before .before .before .check-records .ensures) (c .before .before .before .before .before .before .before .before .first-refusal .ensures) (c .before .before .before .before .before .before .if2 .left) (c .before .before .before .before .if3 .left) (c .before .before .write-out .ensures)
+returns-4 c =
+    way-done _ _ _ _ _
+    (c .before .before .before .before .before .before .before .before .before .before .before .before .frame-refusal .ensures)
+    (c .before .before .before .before .before .before .before .before .before .before .before .if1 .left)
+    (c .before .before .before .before .before .before .before .before .before .before .check-blocks .ensures)
+    (c .before .before .before .before .before .before .before .before .before .check-records .ensures)
+    (c .before .before .before .before .before .before .before .before .first-refusal .ensures)
+    (c .before .before .before .before .before .before .if2 .left) (c .before .before .before .before .if3 .left)
+    (c .before .before .write-out .ensures)
 
 pub translate-spec : {M : Type 1} → statement M
 translate-spec =

@@ -11,10 +11,6 @@ use Rattle.sheets.specs.Slots.{figures, figuresFrom, translated}
 use Rattle.sheets.proofs.SlotLaws.{slot-small, write-starts, write-goes-on, write-ends, pitch-first}
 use Rattle.sheets.proofs.write_out.Statement.{statement}
 use Rattle.sheets.proofs.write_out.Tie as tie
-use Rattle.sheets.proofs.write_out.Reads as reads
-use Rattle.sheets.proofs.write_out.Lts as lts
-use Rattle.entries.proofs.put.Reads as put-reads
-use Rattle.sheets.proofs.put_slot.Reads as put-slot-reads
 
 record Writing (out₀ s : List ℕ) (n : ℕ) (m : Room) (t : List ℕ) (p : ℕ) (out : List ℕ) (at k : ℕ) : Type 0 where
   within : k ≤ 50 * n
@@ -28,39 +24,30 @@ Inv-loop out₀ s n m t p at₀ k₀ out at k = Writing out₀ s n m t p out at 
 abbrev μ-loop : tie.MeasureT-loop
 μ-loop out₀ s n m t p at₀ k₀ out at k = 50 * n - k
 
--- src/lib.rt:92:26
 slice-aggregate-put : tie.Need-slice-aggregate-put Inv-loop μ-loop
 slice-aggregate-put c = search needs
 
--- src/lib.rt:92:5
 put-requires : tie.Need-put-requires Inv-loop μ-loop
 put-requires c κs = search needs
 
--- src/lib.rt:95:5
 loop-holds : tie.Need-loop-holds Inv-loop μ-loop
 loop-holds c = record { within = omega arith; small = omega arith; long = refl; same = write-starts _ _ _ 0 _ _ _ }
 
--- src/lib.rt:95:15
 mul-loop : tie.Need-mul-loop Inv-loop μ-loop
 mul-loop c = search needs
 
--- src/lib.rt:96:15
 put-slot-requires : tie.Need-put-slot-requires Inv-loop μ-loop
 put-slot-requires c κs = search needs
 
--- src/lib.rt:96:9
 add-at : tie.Need-add-at Inv-loop μ-loop
 add-at c = omega (arith, slot-small _ _ _ (c .before .before .put-slot .ensures .0))
 
--- src/lib.rt:97:9
 add-k : tie.Need-add-k Inv-loop μ-loop
 add-k c = search needs
 
--- src/lib.rt:95:5
 loop-less : tie.Need-loop-less Inv-loop μ-loop
 loop-less c = search needs
 
--- src/lib.rt:95:5
 loop-again : tie.Need-loop-again Inv-loop μ-loop
 loop-again c = let l = c .before .before .before .before .before .loop in
     let w = c .before .before .put-slot .ensures in
@@ -71,13 +58,12 @@ loop-again c = let l = c .before .before .before .before .before .loop in
       same = l .inv .same ∙ write-goes-on _ _ _ _ _ _ _ _ (c .before .before .before .before .loop-test .taken) w;
     }
 
--- src/lib.rt:89:1
 same-length : tie.Need-same-length Inv-loop μ-loop
 same-length c = c .before .loop .inv .long ∙ c .before .before .before .before .put .kept .0
 
--- src/lib.rt:89:1
 returns : tie.Need-returns Inv-loop μ-loop
-returns c = write-ends _ _ _ _ _ _ _ _ (c .loop-test .left) ∙ sym (c .before .loop .inv .same) ∙ pitch-first _ _ _ _ (c .before .before .before .before .put .ensures)
+returns c = write-ends _ _ _ _ _ _ _ _ (c .loop-test .left) ∙ sym (c .before .loop .inv .same)
+    ∙ pitch-first _ _ _ _ (c .before .before .before .before .put .ensures)
 
 pub write-out-spec : {M : Type 1} → statement M
 write-out-spec =

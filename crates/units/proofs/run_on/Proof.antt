@@ -8,13 +8,9 @@ use lib.ListN.{length}
 use mathlib.Core.Path.{_≡_, refl, sym, _∙_}
 use mathlib.Core.List.{List}
 use native.Mathlib.Omega.{arith}
-use Prim.Native.Nat.{ℕ, _-_, _<_, _≤_}
+use Prim.Native.Nat.{ℕ, _-_, _≤_}
 use Rattle.units.proofs.run_on.Statement.{statement}
 use Rattle.units.proofs.run_on.Tie as tie
-use Rattle.units.proofs.run_on.Reads as reads
-use Rattle.units.proofs.run_on.Lts as lts
-use Rattle.units.proofs.reason.Reads as reason-reads
-use Rattle.units.proofs.unit.Reads as unit-reads
 
 record Going (mem₀ : List ℕ) (budget : ℕ) (s₀ : Registers) (mem : List ℕ) (s : Registers) (n : ℕ) : Type 0 where
   within : n ≤ budget
@@ -27,49 +23,41 @@ Inv-loop mem₀ budget s₀ n₀ mem s n = Going mem₀ budget s₀ mem s n
 abbrev μ-loop : tie.MeasureT-loop
 μ-loop mem₀ budget s₀ n₀ mem s n = budget - n
 
--- src/lib.rt:124:5
 loop-holds : tie.Need-loop-holds Inv-loop μ-loop
 loop-holds c = record { within = search needs; long = refl; same = run-starts _ 0 _ }
 
--- src/lib.rt:125:13
 reason-requires : tie.Need-reason-requires Inv-loop μ-loop
 reason-requires c κs = search needs
 
--- src/lib.rt:127:13
 same-length : tie.Need-same-length Inv-loop μ-loop
 same-length c = c .before .before .before .loop .inv .long
 
--- src/lib.rt:127:13
 returns : tie.Need-returns Inv-loop μ-loop
 returns c = let l = c .before .before .before .loop in
     run-stops _ _ _ (c .before .before .loop-test .taken) (c .before .reason .ensures) (c .if1 .taken) ∙ sym (l .inv .same)
 
--- src/lib.rt:134:9
 unit-requires : tie.Need-unit-requires Inv-loop μ-loop
 unit-requires c κs = search needs
 
--- src/lib.rt:135:9
 add-n : tie.Need-add-n Inv-loop μ-loop
 add-n c = search needs
 
--- src/lib.rt:124:5
 loop-less : tie.Need-loop-less Inv-loop μ-loop
 loop-less c = omega arith
 
--- src/lib.rt:124:5
 loop-again : tie.Need-loop-again Inv-loop μ-loop
 loop-again c = let l = c .before .before .before .before .before .before .before .loop in
     record {
       within = omega arith;
       long = c .before .before .unit .kept .1 .0 ∙ l .inv .long;
-      same = l .inv .same ∙ run-goes-on _ _ _ (c .before .before .before .before .before .before .loop-test .taken) (c .before .before .before .before .before .reason .ensures) (c .before .before .before .before .if1 .left) (c .before .before .unit .ensures);
+      same = l .inv .same ∙ run-goes-on _ _ _ (c .before .before .before .before .before .before .loop-test .taken)
+          (c .before .before .before .before .before .reason .ensures) (c .before .before .before .before .if1 .left)
+          (c .before .before .unit .ensures);
     }
 
--- src/lib.rt:119:1
 same-length-2 : tie.Need-same-length-2 Inv-loop μ-loop
 same-length-2 c = c .before .loop .inv .long
 
--- src/lib.rt:119:1
 returns-2 : tie.Need-returns-2 Inv-loop μ-loop
 returns-2 c = run-ends _ _ _ (c .loop-test .left) ∙ sym (c .before .loop .inv .same)
 

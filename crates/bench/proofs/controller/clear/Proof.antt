@@ -5,8 +5,6 @@ use mathlib.Core.Path.{_≡_}
 use Prim.Native.Nat.{_-_, _≤_}
 use Rattle.bench.proofs.controller.clear.Statement.{statement}
 use Rattle.bench.proofs.controller.clear.Tie as tie
-use Rattle.bench.proofs.controller.clear.Reads as reads
-use Rattle.bench.proofs.controller.clear.Lts as lts
 
 abbrev Inv-loop : tie.InvT-loop
 Inv-loop mem₀ n i₀ mem i = (i ≤ n) × (length mem ≡ length mem₀)

@@ -4,9 +4,6 @@ use lib.ListN.{length}
 use Prim.Native.Nat.{_-_, _≤_}
 use Rattle.bench.proofs.controller.digest_of.Statement.{statement}
 use Rattle.bench.proofs.controller.digest_of.Tie as tie
-use Rattle.bench.proofs.controller.digest_of.Reads as reads
-use Rattle.bench.proofs.controller.digest_of.Lts as lts
-use Rattle.bench.proofs.controller.mixed.Reads as mixed-reads
 
 abbrev Inv-loop : tie.InvT-loop
 Inv-loop mem h₀ i₀ h i = i ≤ length mem

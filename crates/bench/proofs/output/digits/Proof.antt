@@ -5,10 +5,6 @@ use mathlib.Core.Path.{_≡_}
 use Prim.Native.Nat.{_-_, _≤_}
 use Rattle.bench.proofs.output.digits.Statement.{statement}
 use Rattle.bench.proofs.output.digits.Tie as tie
-use Rattle.bench.proofs.output.digits.Reads as reads
-use Rattle.bench.proofs.output.digits.Lts as lts
-use Rattle.bench.proofs.output.character.Reads as character-reads
-use Rattle.bench.proofs.output.upper.Reads as upper-reads
 
 abbrev Inv-loop : tie.InvT-loop
 Inv-loop out₀ held text n₀ i₀ out n i = (i ≤ length text) × (length out ≡ length out₀)

@@ -5,9 +5,6 @@ use mathlib.Core.Path.{_≡_}
 use Prim.Native.Nat.{_-_, _≤_}
 use Rattle.bench.proofs.output.fields.Statement.{statement}
 use Rattle.bench.proofs.output.fields.Tie as tie
-use Rattle.bench.proofs.output.fields.Reads as reads
-use Rattle.bench.proofs.output.fields.Lts as lts
-use Rattle.bench.proofs.output.padded.Reads as padded-reads
 
 abbrev Inv-loop : tie.InvT-loop
 Inv-loop out₀ held values n₀ i₀ out n i = (i ≤ length values) × (length out ≡ length out₀)

@@ -5,11 +5,6 @@ use mathlib.Core.Path.{_≡_}
 use Prim.Native.Nat.{_-_, _≤_}
 use Rattle.bench.proofs.output.pairs.Statement.{statement}
 use Rattle.bench.proofs.output.pairs.Tie as tie
-use Rattle.bench.proofs.output.pairs.Reads as reads
-use Rattle.bench.proofs.output.pairs.Lts as lts
-use Rattle.bench.proofs.output.character.Reads as character-reads
-use Rattle.bench.proofs.output.number.Reads as number-reads
-use Rattle.bench.proofs.output.wide.Reads as wide-reads
 
 abbrev Inv-loop : tie.InvT-loop
 Inv-loop out₀ held bytes n₀ i₀ out n i = (i ≤ length bytes) × (length out ≡ length out₀)

@@ -4,8 +4,6 @@ use borrow.Author.Needs.{needs}
 use Rattle.bench.specs.Upper.{upperOf}
 use Rattle.bench.proofs.output.upper.Statement.{statement}
 use Rattle.bench.proofs.output.upper.Tie as tie
-use Rattle.bench.proofs.output.upper.Reads as reads
-use Rattle.bench.proofs.output.upper.Lts as lts
 
 sub-result : tie.Need-sub-result
 sub-result c = search needs

@@ -5,10 +5,6 @@ use mathlib.Core.Path.{_≡_}
 use Prim.Native.Nat.{_-_, _≤_}
 use Rattle.bench.proofs.output.words.Statement.{statement}
 use Rattle.bench.proofs.output.words.Tie as tie
-use Rattle.bench.proofs.output.words.Reads as reads
-use Rattle.bench.proofs.output.words.Lts as lts
-use Rattle.bench.proofs.output.padded.Reads as padded-reads
-use Rattle.bench.proofs.output.wide_word.Reads as wide-word-reads
 
 abbrev Inv-loop : tie.InvT-loop
 Inv-loop out₀ held values width n₀ i₀ out n i = (i ≤ length values) × (length out ≡ length out₀)

@@ -2,12 +2,9 @@
 use borrow.Author.Needs.{needs}
 use lib.ListN.{length as count}
 use mathlib.Core.Path.{_≡_}
-use Prim.Native.Nat.{_-_, _≤_}
+use Prim.Native.Nat.{_-_}
 use Rattle.bench.proofs.reader.take_line.Statement.{statement}
 use Rattle.bench.proofs.reader.take_line.Tie as tie
-use Rattle.bench.proofs.reader.take_line.Reads as reads
-use Rattle.bench.proofs.reader.take_line.Lts as lts
-use Rattle.bench.proofs.reader.within.Reads as within-reads
 
 abbrev Inv-loop : tie.InvT-loop
 Inv-loop input r line₀ filled at₀ length₀ line at length = count line ≡ count line₀

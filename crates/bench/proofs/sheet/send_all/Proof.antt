@@ -5,11 +5,6 @@ use mathlib.Core.Path.{_≡_}
 use Prim.Native.Nat.{_-_, _≤_}
 use Rattle.bench.proofs.sheet.send_all.Statement.{statement}
 use Rattle.bench.proofs.sheet.send_all.Tie as tie
-use Rattle.bench.proofs.sheet.send_all.Reads as reads
-use Rattle.bench.proofs.sheet.send_all.Lts as lts
-use Rattle.bench.proofs.sheet.send.Reads as send-reads
-use Rattle.bench.proofs.sheet.until_idle.Reads as until-idle-reads
-use Rattle.std.proofs.num.wrapping_add_u64.Reads as wrapping-add-u64-reads
 
 abbrev Inv-loop : tie.InvT-loop
 Inv-loop entries mem₀ q₀ done₀ i₀ mem q done i = (i ≤ length entries) × (length mem ≡ length mem₀)

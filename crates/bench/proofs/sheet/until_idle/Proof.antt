@@ -4,10 +4,6 @@ use lib.ListN.{length}
 use mathlib.Core.Path.{_≡_}
 use Rattle.bench.proofs.sheet.until_idle.Statement.{statement}
 use Rattle.bench.proofs.sheet.until_idle.Tie as tie
-use Rattle.bench.proofs.sheet.until_idle.Reads as reads
-use Rattle.bench.proofs.sheet.until_idle.Lts as lts
-use Rattle.std.proofs.num.wrapping_add_u64.Reads as wrapping-add-u64-reads
-use Rattle.units.proofs.run.Reads as run-reads
 
 abbrev Inv-loop : tie.InvT-loop
 Inv-loop mem₀ q₀ done₀ left₀ mem q done left = length mem ≡ length mem₀

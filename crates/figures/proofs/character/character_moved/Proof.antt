@@ -5,81 +5,77 @@ use Prim.Native.Nat.{_+_}
 use borrow.Author.Needs.{needs}
 use Rattle.figures.proofs.character.character_moved.Statement.{statement}
 use Rattle.figures.proofs.character.character_moved.Tie as tie
-use Rattle.figures.proofs.character.character_moved.Reads as reads
-use Rattle.figures.proofs.character.character_moved.Lts as lts
-use Rattle.dots.proofs.step.Reads as step-reads
-use Rattle.figures.proofs.character.next_start.Reads as next-start-reads
-use Rattle.figures.proofs.ends.Reads as ends-reads
-use Rattle.figures.proofs.goes_on.Reads as goes-on-reads
-use Rattle.registers.proofs.columns_of.Reads as columns-of-reads
-use Rattle.registers.proofs.rows_of.Reads as rows-of-reads
 
--- src/character.rt:31:19
 columns-of-requires : tie.Need-columns-of-requires
 columns-of-requires c κs = search needs
 
--- src/character.rt:31:19
 cast-columns : tie.Need-cast-columns
 cast-columns c = search needs
 
--- src/character.rt:32:8
 add-if1 : tie.Need-add-if1
 add-if1 c = search needs
 
--- src/character.rt:33:13
 step-requires : tie.Need-step-requires
 step-requires c κs = search needs
 
--- src/character.rt:34:76
 add-t13 : tie.Need-add-t13
 add-t13 c = search needs
 
--- src/character.rt:34:9
 goes-on-requires : tie.Need-goes-on-requires
 goes-on-requires c κs = search needs
 
--- src/character.rt:34:9
 returns : tie.Need-returns
 unfolding characterMoved
-returns c = rw (c .goes-on .ensures, c .before .step .ensures, ← c .before .before .before .columns-of .ensures, lt-ltb (c .before .before .before .before .args .column + 1) _ (c .before .before .if1 .taken))
+returns c = rw (
+  c .goes-on .ensures,
+  c .before .step .ensures,
+  ← c .before .before .before .columns-of .ensures,
+  lt-ltb (c .before .before .before .before .args .column + 1) _ (c .before .before .if1 .taken),
+)
 
--- src/character.rt:36:16
 rows-of-requires : tie.Need-rows-of-requires
 rows-of-requires c κs = search needs
 
--- src/character.rt:36:16
 cast-rows : tie.Need-cast-rows
 cast-rows c = search needs
 
--- src/character.rt:37:8
 add-if2 : tie.Need-add-if2
 add-if2 c = search needs
 
--- src/character.rt:38:13
 next-start-requires : tie.Need-next-start-requires
 next-start-requires c κs = search needs
 
--- src/character.rt:39:63
 add-t15 : tie.Need-add-t15
 add-t15 c = search needs
 
--- src/character.rt:39:9
 goes-on-requires-2 : tie.Need-goes-on-requires-2
 goes-on-requires-2 c κs = search needs
 
--- src/character.rt:39:9
 returns-2 : tie.Need-returns-2
 unfolding characterMoved
-returns-2 c = rw (c .goes-on2 .ensures, c .before .next-start .ensures, ← c .before .before .before .before .before .columns-of .ensures, le-ltb (c .before .before .before .before .before .before .args .column + 1) _ (c .before .before .before .before .if1 .left), ← c .before .before .before .rows-of .ensures, lt-ltb (c .before .before .before .before .before .before .args .row + 1) _ (c .before .before .if2 .taken))
+returns-2 c =
+    rw (
+      c .goes-on2 .ensures,
+      c .before .next-start .ensures,
+      ← c .before .before .before .before .before .columns-of .ensures,
+      le-ltb (c .before .before .before .before .before .before .args .column + 1) _ (c .before .before .before .before .if1 .left),
+      ← c .before .before .before .rows-of .ensures,
+      lt-ltb (c .before .before .before .before .before .before .args .row + 1) _ (c .before .before .if2 .taken),
+    )
 
--- src/character.rt:41:5
 ends-requires : tie.Need-ends-requires
 ends-requires c κs = search needs
 
--- src/character.rt:28:1
 returns-3 : tie.Need-returns-3
 unfolding characterMoved
-returns-3 c = rw (c .ends .ensures, ← c .before .before .before .before .columns-of .ensures, le-ltb (c .before .before .before .before .before .args .column + 1) _ (c .before .before .before .if1 .left), ← c .before .before .rows-of .ensures, le-ltb (c .before .before .before .before .before .args .row + 1) _ (c .before .if2 .left))
+returns-3 c =
+    rw (
+      c .ends .ensures,
+      ← c .before .before .before .before .columns-of .ensures,
+      le-ltb (c .before .before .before .before .before .args .column + 1) _ (c .before .before .before .if1 .left),
+      ← c .before .before .rows-of .ensures,
+      le-ltb (c .before .before .before .before .before .args .row + 1) _ (c .before .if2 .left),
+    )
 
 pub character-moved-spec : {M : Type 1} → statement M
 character-moved-spec =

@@ -5,46 +5,34 @@ use mathlib.Core.Path.{refl}
 use borrow.Author.Needs.{needs}
 use Rattle.figures.proofs.character.character_pattern.Statement.{statement}
 use Rattle.figures.proofs.character.character_pattern.Tie as tie
-use Rattle.figures.proofs.character.character_pattern.Reads as reads
-use Rattle.figures.proofs.character.character_pattern.Lts as lts
 
--- src/character.rt:15:20
 div-at : tie.Need-div-at
 div-at c = search needs
 
--- src/character.rt:15:19
 cast-at : tie.Need-cast-at
 cast-at c = search needs
 
--- src/character.rt:15:14
 sub-at : tie.Need-sub-at
 sub-at c = search needs
 
--- src/character.rt:16:16
 array-read-byte : tie.Need-array-read-byte
 array-read-byte c = search needs
 
--- src/character.rt:17:7
 cast-result : tie.Need-cast-result
 cast-result c = search needs
 
--- src/character.rt:17:23
 div-result : tie.Need-div-result
 div-result c = search needs
 
--- src/character.rt:17:7
 shr-result : tie.Need-shr-result
 shr-result c = search needs
 
--- src/character.rt:17:6
 mul-result : tie.Need-mul-result
 mul-result c = search needs
 
--- src/character.rt:17:5
 cast-result-2 : tie.Need-cast-result-2
 cast-result-2 c = search needs
 
--- src/character.rt:11:1
 returns : tie.Need-returns
 unfolding characterPattern bit
 returns c = refl

@@ -3,36 +3,26 @@ use Rattle.figures.proofs.UnitLaws.{character-done, factor-some}
 use borrow.Author.Needs.{needs}
 use Rattle.figures.proofs.character.character_unit.Statement.{statement}
 use Rattle.figures.proofs.character.character_unit.Tie as tie
-use Rattle.figures.proofs.character.character_unit.Reads as reads
-use Rattle.figures.proofs.character.character_unit.Lts as lts
-use Rattle.dots.proofs.cycle.Reads as cycle-reads
-use Rattle.figures.proofs.character.character_moved.Reads as character-moved-reads
-use Rattle.figures.proofs.character.character_pattern.Reads as character-pattern-reads
-use Rattle.registers.proofs.factor_of.Reads as factor-of-reads
 
--- src/character.rt:50:9
 factor-of-requires : tie.Need-factor-of-requires
 factor-of-requires c κs = search needs
 
--- src/character.rt:51:32
 character-pattern-requires : tie.Need-character-pattern-requires
 character-pattern-requires c κs = factor-some _ (c .before .factor-of .ensures)
 
--- src/character.rt:51:5
 cycle-requires : tie.Need-cycle-requires
 cycle-requires c κs = search needs
 
--- src/character.rt:52:5
 character-moved-requires : tie.Need-character-moved-requires
 character-moved-requires c κs = search needs
 
--- src/character.rt:45:1
 same-length : tie.Need-same-length
 same-length c = search needs
 
--- src/character.rt:45:1
 returns : tie.Need-returns
-returns c = character-done _ _ _ _ _ (c .before .before .before .before .before .before .factor-of .ensures) (c .before .before .before .before .character-pattern .ensures) (c .before .before .before .cycle .ensures) (c .character-moved .ensures)
+returns c = character-done _ _ _ _ _ (c .before .before .before .before .before .before .factor-of .ensures)
+    (c .before .before .before .before .character-pattern .ensures) (c .before .before .before .cycle .ensures)
+    (c .character-moved .ensures)
 
 pub character-unit-spec : {M : Type 1} → statement M
 character-unit-spec =

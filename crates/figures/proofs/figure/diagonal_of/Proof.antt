@@ -4,18 +4,13 @@ use Prim.Native.Nat.{_%_}
 use borrow.Author.Needs.{needs}
 use Rattle.figures.proofs.figure.diagonal_of.Statement.{statement}
 use Rattle.figures.proofs.figure.diagonal_of.Tie as tie
-use Rattle.figures.proofs.figure.diagonal_of.Reads as reads
-use Rattle.figures.proofs.figure.diagonal_of.Lts as lts
 
--- src/figure.rt:33:16
 add-result : tie.Need-add-result
 add-result c = search needs
 
--- src/figure.rt:33:9
 returns : tie.Need-returns
 returns c = rw (eq-eqb (c .before .args .dir % 2) 0 (c .if1 .taken))
 
--- src/figure.rt:29:1
 returns-2 : tie.Need-returns-2
 returns-2 c = rw (ne-eqb (c .before .args .dir % 2) 0 (c .if1 .left))
 

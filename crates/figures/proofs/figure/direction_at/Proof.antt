@@ -4,49 +4,39 @@ use borrow.Author.Tests.{eq-eqb, ne-eqb}
 use borrow.Author.Needs.{needs}
 use Rattle.figures.proofs.figure.direction_at.Statement.{statement}
 use Rattle.figures.proofs.figure.direction_at.Tie as tie
-use Rattle.figures.proofs.figure.direction_at.Reads as reads
-use Rattle.figures.proofs.figure.direction_at.Lts as lts
-use Rattle.figures.proofs.figure.line_direction.Reads as line-direction-reads
-use Rattle.figures.proofs.figure.side_of.Reads as side-of-reads
 
--- src/figure.rt:82:9
 line-direction-requires : tie.Need-line-direction-requires
 line-direction-requires c κs = search needs
 
--- src/figure.rt:82:9
 returns : tie.Need-returns
 unfolding directionAt
 returns c = rw (c .line-direction .ensures, eq-eqb (c .before .before .before .args .f .kind) 1 (c .before .if1 .taken))
 
--- src/figure.rt:85:18
 cast-result : tie.Need-cast-result
 cast-result c = search needs
 
--- src/figure.rt:85:33
 side-of-requires : tie.Need-side-of-requires
 side-of-requires c κs = search needs
 
--- src/figure.rt:85:33
 cast-result-2 : tie.Need-cast-result-2
 cast-result-2 c = search needs
 
--- src/figure.rt:85:18
 add-result : tie.Need-add-result
 add-result c = search needs
 
--- src/figure.rt:85:16
 cast-result-3 : tie.Need-cast-result-3
 cast-result-3 c = search needs
 
--- src/figure.rt:85:9
 returns-2 : tie.Need-returns-2
 unfolding directionAt
-returns-2 c = let k = c .before .before .before .before .before .before .args .f .kind in rw (c .side-of .ensures, ne-eqb k 1 (c .before .before .before .before .if1 .left), eq-eqb k 8 (c .before .before .if2 .taken))
+returns-2 c =
+    let k = c .before .before .before .before .before .before .args .f .kind in
+    rw (c .side-of .ensures, ne-eqb k 1 (c .before .before .before .before .if1 .left), eq-eqb k 8 (c .before .before .if2 .taken))
 
--- src/figure.rt:78:1
 returns-3 : tie.Need-returns-3
 unfolding directionAt
-returns-3 c = let k = c .before .before .before .before .args .f .kind in rw (ne-eqb k 1 (c .before .before .if1 .left), ne-eqb k 8 (c .if2 .left))
+returns-3 c =
+    let k = c .before .before .before .before .args .f .kind in rw (ne-eqb k 1 (c .before .before .if1 .left), ne-eqb k 8 (c .if2 .left))
 
 pub direction-at-spec : {M : Type 1} → statement M
 direction-at-spec =

@@ -4,39 +4,29 @@ use borrow.Author.Tests.{le-leb, lt-leb}
 use borrow.Author.Needs.{needs}
 use Rattle.figures.proofs.figure.error_after.Statement.{statement}
 use Rattle.figures.proofs.figure.error_after.Tie as tie
-use Rattle.figures.proofs.figure.error_after.Reads as reads
-use Rattle.figures.proofs.figure.error_after.Lts as lts
 
--- src/figure.rt:53:29
 cast-result : tie.Need-cast-result
 cast-result c = search needs
 
--- src/figure.rt:53:18
 add-result : tie.Need-add-result
 add-result c = search needs
 
--- src/figure.rt:53:16
 cast-result-2 : tie.Need-cast-result-2
 cast-result-2 c = search needs
 
--- src/figure.rt:53:9
 returns : tie.Need-returns
 unfolding errorAfter
 returns c = rw (le-leb 8192 (c .before .before .args .d) (c .before .if1 .taken))
 
--- src/figure.rt:55:18
 cast-result-3 : tie.Need-cast-result-3
 cast-result-3 c = search needs
 
--- src/figure.rt:55:7
 add-result-2 : tie.Need-add-result-2
 add-result-2 c = search needs
 
--- src/figure.rt:55:5
 cast-result-4 : tie.Need-cast-result-4
 cast-result-4 c = search needs
 
--- src/figure.rt:49:1
 returns-2 : tie.Need-returns-2
 unfolding errorAfter
 returns-2 c = rw (lt-leb 8192 (c .before .before .args .d) (c .before .if1 .left))

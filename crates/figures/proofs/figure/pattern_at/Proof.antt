@@ -5,30 +5,22 @@ use mathlib.Core.Path.{refl}
 use borrow.Author.Needs.{needs}
 use Rattle.figures.proofs.figure.pattern_at.Statement.{statement}
 use Rattle.figures.proofs.figure.pattern_at.Tie as tie
-use Rattle.figures.proofs.figure.pattern_at.Reads as reads
-use Rattle.figures.proofs.figure.pattern_at.Lts as lts
 
--- src/figure.rt:15:29
 mul-word : tie.Need-mul-word
 mul-word c = search needs
 
--- src/figure.rt:15:16
 add-word : tie.Need-add-word
 add-word c = search needs
 
--- src/figure.rt:16:7
 shr-result : tie.Need-shr-result
 shr-result c = search needs
 
--- src/figure.rt:16:6
 mul-result : tie.Need-mul-result
 mul-result c = search needs
 
--- src/figure.rt:16:5
 cast-result : tie.Need-cast-result
 cast-result c = search needs
 
--- src/figure.rt:12:1
 returns : tie.Need-returns
 unfolding patternOf bit
 returns c = refl

@@ -4,20 +4,14 @@ use borrow.Author.Tests.{eq-eqb, ne-eqb}
 use borrow.Author.Needs.{needs}
 use Rattle.figures.proofs.figure.running_d.Statement.{statement}
 use Rattle.figures.proofs.figure.running_d.Tie as tie
-use Rattle.figures.proofs.figure.running_d.Reads as reads
-use Rattle.figures.proofs.figure.running_d.Lts as lts
-use Rattle.figures.proofs.figure.error_after.Reads as error-after-reads
 
--- src/figure.rt:95:9
 error-after-requires : tie.Need-error-after-requires
 error-after-requires c κs = search needs
 
--- src/figure.rt:95:9
 returns : tie.Need-returns
 unfolding runningD
 returns c = rw (c .error-after .ensures, eq-eqb (c .before .before .before .args .f .kind) 1 (c .before .if1 .taken))
 
--- src/figure.rt:91:1
 returns-2 : tie.Need-returns-2
 unfolding runningD
 returns-2 c = rw (ne-eqb (c .before .before .args .f .kind) 1 (c .if1 .left))

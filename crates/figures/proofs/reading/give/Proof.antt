@@ -1,53 +1,38 @@
 -- `give` is the definition, by the type.
 use Rattle.figures.specs.Reading.{given}
-use Rattle.registers.specs.Buffer.{pushed}
-use mathlib.Core.Path.{_∙_, ap}
 use borrow.Author.Needs.{needs}
 use Rattle.figures.proofs.reading.give.Statement.{statement}
 use Rattle.figures.proofs.reading.give.Tie as tie
-use Rattle.figures.proofs.reading.give.Reads as reads
-use Rattle.figures.proofs.reading.give.Lts as lts
-use Rattle.registers.proofs.push.Reads as push-reads
 
--- src/reading.rt:34:62
 enum-told : tie.Need-enum-told
 enum-told c = search needs
 
--- src/reading.rt:34:43
 push-requires : tie.Need-push-requires
 push-requires c κs = search needs
 
--- src/reading.rt:34:27
 push-requires-2 : tie.Need-push-requires-2
 push-requires-2 c κs = search needs
 
--- src/reading.rt:35:45
 enum-told-2 : tie.Need-enum-told-2
 enum-told-2 c = search needs
 
--- src/reading.rt:35:26
 push-requires-3 : tie.Need-push-requires-3
 push-requires-3 c κs = search needs
 
--- src/reading.rt:36:46
 enum-told-3 : tie.Need-enum-told-3
 enum-told-3 c = search needs
 
--- src/reading.rt:36:27
 push-requires-4 : tie.Need-push-requires-4
 push-requires-4 c κs = search needs
 
--- src/reading.rt:30:1
 returns : tie.Need-returns
 unfolding given
 returns c = rw (c .before .before .enum-told .given .1, c .push2 .ensures, c .before .push .ensures)
 
--- src/reading.rt:30:1
 returns-2 : tie.Need-returns-2
 unfolding given
 returns-2 c = rw (c .before .enum-told2 .given .1, c .push3 .ensures)
 
--- src/reading.rt:30:1
 returns-3 : tie.Need-returns-3
 unfolding given
 returns-3 c = rw (c .before .enum-told3 .given .1, c .push4 .ensures)

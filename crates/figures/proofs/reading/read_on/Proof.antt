@@ -5,23 +5,17 @@ use Prim.Native.Nat.{_+_}
 use borrow.Author.Needs.{needs}
 use Rattle.figures.proofs.reading.read_on.Statement.{statement}
 use Rattle.figures.proofs.reading.read_on.Tie as tie
-use Rattle.figures.proofs.reading.read_on.Reads as reads
-use Rattle.figures.proofs.reading.read_on.Lts as lts
 
--- src/reading.rt:44:8
 add-if1 : tie.Need-add-if1
 add-if1 c = search needs
 
--- src/reading.rt:45:38
 add-t8 : tie.Need-add-t8
 add-t8 c = search needs
 
--- src/reading.rt:45:9
 returns : tie.Need-returns
 unfolding readOn
 returns c = rw (lt-ltb (c .before .args .i + 1) (c .before .args .dc) (c .if1 .taken))
 
--- src/reading.rt:41:1
 returns-2 : tie.Need-returns-2
 unfolding readOn
 returns-2 c = rw (le-ltb (c .before .args .i + 1) (c .before .args .dc) (c .if1 .left))

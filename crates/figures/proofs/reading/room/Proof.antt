@@ -3,27 +3,19 @@ use Rattle.figures.specs.Reading.{roomB}
 use borrow.Author.Needs.{needs}
 use Rattle.figures.proofs.reading.room.Statement.{statement}
 use Rattle.figures.proofs.reading.room.Tie as tie
-use Rattle.figures.proofs.reading.room.Reads as reads
-use Rattle.figures.proofs.reading.room.Lts as lts
-use Rattle.figures.proofs.reading.bytes_of.Reads as bytes-of-reads
 
--- src/reading.rt:26:5
 cast-result : tie.Need-cast-result
 cast-result c = search needs
 
--- src/reading.rt:26:22
 bytes-of-requires : tie.Need-bytes-of-requires
 bytes-of-requires c κs = search needs
 
--- src/reading.rt:26:22
 cast-result-2 : tie.Need-cast-result-2
 cast-result-2 c = search needs
 
--- src/reading.rt:26:5
 add-result : tie.Need-add-result
 add-result c = search needs
 
--- src/reading.rt:23:1
 returns : tie.Need-returns
 unfolding roomB
 returns c = rw (c .bytes-of .ensures)

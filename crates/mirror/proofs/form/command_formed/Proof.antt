@@ -1,14 +1,10 @@
 -- `command_formed` is the definition, test by test.
 use Rattle.mirror.proofs.form.command_formed.Statement.{statement}
 use Rattle.mirror.proofs.form.command_formed.Tie as tie
-use Rattle.mirror.proofs.form.command_formed.Reads as reads
-use Rattle.mirror.proofs.form.command_formed.Lts as lts
 
--- src/form.rt:11:9
 returns : tie.Need-returns
 returns c = rw (c .if1 .taken)
 
--- src/form.rt:7:1
 returns-2 : tie.Need-returns-2
 returns-2 c = rw (c .if1 .left)
 

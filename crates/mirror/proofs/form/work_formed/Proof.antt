@@ -3,65 +3,51 @@ use borrow.Author.Tests.{ne-eqb}
 use borrow.Author.Needs.{needs}
 use Rattle.mirror.proofs.form.work_formed.Statement.{statement}
 use Rattle.mirror.proofs.form.work_formed.Tie as tie
-use Rattle.mirror.proofs.form.work_formed.Reads as reads
-use Rattle.mirror.proofs.form.work_formed.Lts as lts
-use Rattle.mirror.proofs.form.no_character.Reads as no-character-reads
-use Rattle.mirror.proofs.form.no_figure.Reads as no-figure-reads
-use Rattle.mirror.proofs.form.no_reading.Reads as no-reading-reads
 
--- src/form.rt:40:14
 no-figure-requires : tie.Need-no-figure-requires
 no-figure-requires c κs = search needs
 
--- src/form.rt:40:29
 no-character-requires : tie.Need-no-character-requires
 no-character-requires c κs = search needs
 
--- src/form.rt:40:47
 no-reading-requires : tie.Need-no-reading-requires
 no-reading-requires c κs = search needs
 
--- src/form.rt:41:14
 no-character-requires-2 : tie.Need-no-character-requires-2
 no-character-requires-2 c κs = search needs
 
--- src/form.rt:41:32
 no-reading-requires-2 : tie.Need-no-reading-requires-2
 no-reading-requires-2 c κs = search needs
 
--- src/form.rt:42:14
 no-figure-requires-2 : tie.Need-no-figure-requires-2
 no-figure-requires-2 c κs = search needs
 
--- src/form.rt:42:29
 no-reading-requires-3 : tie.Need-no-reading-requires-3
 no-reading-requires-3 c κs = search needs
 
--- src/form.rt:43:14
 no-figure-requires-3 : tie.Need-no-figure-requires-3
 no-figure-requires-3 c κs = search needs
 
--- src/form.rt:43:29
 no-character-requires-3 : tie.Need-no-character-requires-3
 no-character-requires-3 c κs = search needs
 
--- src/form.rt:35:1
 returns : tie.Need-returns
-returns c = rw (c .before .before .before .match .keys1, c .before .before .no-figure .ensures, c .before .no-character .ensures, c .no-reading .ensures)
+returns c = rw (
+  c .before .before .before .match .keys1,
+  c .before .before .no-figure .ensures,
+  c .before .no-character .ensures,
+  c .no-reading .ensures,
+)
 
--- src/form.rt:35:1
 returns-2 : tie.Need-returns-2
 returns-2 c = rw (c .before .before .match .keys2, c .before .no-character2 .ensures, c .no-reading2 .ensures)
 
--- src/form.rt:35:1
 returns-3 : tie.Need-returns-3
 returns-3 c = rw (c .before .before .match .keys3, c .before .no-figure2 .ensures, c .no-reading3 .ensures)
 
--- src/form.rt:35:1
 returns-4 : tie.Need-returns-4
 returns-4 c = rw (c .before .before .before .match .keys4, c .before .before .no-figure3 .ensures, c .before .no-character3 .ensures)
 
--- src/form.rt:35:1
 returns-5 : tie.Need-returns-5
 returns-5 c = let n = c .match .rest in rw (ne-eqb _ 0 (n .0 .0 .0 .1), ne-eqb _ 1 (n .0 .0 .1), ne-eqb _ 2 (n .0 .1), ne-eqb _ 3 (n .1))
 

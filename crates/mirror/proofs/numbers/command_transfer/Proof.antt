@@ -3,35 +3,25 @@ use Rattle.mirror.proofs.NumberLaws.{no-transfer}
 use borrow.Author.Needs.{needs}
 use Rattle.mirror.proofs.numbers.command_transfer.Statement.{statement}
 use Rattle.mirror.proofs.numbers.command_transfer.Tie as tie
-use Rattle.mirror.proofs.numbers.command_transfer.Reads as reads
-use Rattle.mirror.proofs.numbers.command_transfer.Lts as lts
-use Rattle.mirror.proofs.numbers.transfer_number.Reads as transfer-number-reads
 
--- src/numbers.rt:152:23
 enum-known-c : tie.Need-enum-known-c
 enum-known-c c = search needs
 
--- src/numbers.rt:152:29
 transfer-number-requires : tie.Need-transfer-number-requires
 transfer-number-requires c κs = search needs
 
--- src/numbers.rt:153:23
 enum-known-c-2 : tie.Need-enum-known-c-2
 enum-known-c-2 c = search needs
 
--- src/numbers.rt:153:29
 transfer-number-requires-2 : tie.Need-transfer-number-requires-2
 transfer-number-requires-2 c κs = search needs
 
--- src/numbers.rt:148:1
 returns : tie.Need-returns
 returns c = rw (c .before .before .c .given .1, c .transfer-number .ensures)
 
--- src/numbers.rt:148:1
 returns-2 : tie.Need-returns-2
 returns-2 c = rw (c .before .before .c2 .given .1, c .transfer-number2 .ensures)
 
--- src/numbers.rt:148:1
 returns-3 : tie.Need-returns-3
 returns-3 c = no-transfer (c .before .args .c) (c .match .keys3)
 

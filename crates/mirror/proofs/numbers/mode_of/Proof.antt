@@ -2,14 +2,10 @@
 use borrow.Author.Tests.{ne-eqb}
 use Rattle.mirror.proofs.numbers.mode_of.Statement.{statement}
 use Rattle.mirror.proofs.numbers.mode_of.Tie as tie
-use Rattle.mirror.proofs.numbers.mode_of.Reads as reads
-use Rattle.mirror.proofs.numbers.mode_of.Lts as lts
 
--- src/numbers.rt:58:1
 returns : tie.Need-returns
 returns c = rw (c .match .keys1)
 
--- src/numbers.rt:58:1
 returns-2 : tie.Need-returns-2
 returns-2 c = rw (ne-eqb _ 0 (c .match .rest .1))
 

@@ -2,15 +2,10 @@
 use borrow.Author.Needs.{needs}
 use Rattle.mirror.proofs.parts.pen_of.Statement.{statement}
 use Rattle.mirror.proofs.parts.pen_of.Tie as tie
-use Rattle.mirror.proofs.parts.pen_of.Reads as reads
-use Rattle.mirror.proofs.parts.pen_of.Lts as lts
-use Rattle.mirror.proofs.numbers.bit_of.Reads as bit-of-reads
 
--- src/parts.rt:117:14
 bit-of-requires : tie.Need-bit-of-requires
 bit-of-requires c κs = search needs
 
--- src/parts.rt:112:1
 returns : tie.Need-returns
 returns c = rw (c .bit-of .ensures)
 

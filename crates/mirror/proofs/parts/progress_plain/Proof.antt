@@ -2,20 +2,13 @@
 use borrow.Author.Needs.{needs}
 use Rattle.mirror.proofs.parts.progress_plain.Statement.{statement}
 use Rattle.mirror.proofs.parts.progress_plain.Tie as tie
-use Rattle.mirror.proofs.parts.progress_plain.Reads as reads
-use Rattle.mirror.proofs.parts.progress_plain.Lts as lts
-use Rattle.mirror.proofs.numbers.command_number.Reads as command-number-reads
-use Rattle.mirror.proofs.numbers.command_transfer.Reads as command-transfer-reads
 
--- src/parts.rt:166:18
 command-number-requires : tie.Need-command-number-requires
 command-number-requires c κs = search needs
 
--- src/parts.rt:167:19
 command-transfer-requires : tie.Need-command-transfer-requires
 command-transfer-requires c κs = search needs
 
--- src/parts.rt:161:1
 returns : tie.Need-returns
 returns c = rw (c .before .command-number .ensures, c .command-transfer .ensures)
 

@@ -3,34 +3,25 @@ use borrow.Author.Tests.{ne-eqb}
 use borrow.Author.Needs.{needs}
 use Rattle.mirror.proofs.parts.work_of.Statement.{statement}
 use Rattle.mirror.proofs.parts.work_of.Tie as tie
-use Rattle.mirror.proofs.parts.work_of.Reads as reads
-use Rattle.mirror.proofs.parts.work_of.Lts as lts
-use Rattle.mirror.proofs.numbers.transfer_of.Reads as transfer-of-reads
-use Rattle.mirror.proofs.parts.cursor_of.Reads as cursor-of-reads
 
--- src/parts.rt:183:20
 cursor-of-requires : tie.Need-cursor-of-requires
 cursor-of-requires c κs = search needs
 
--- src/parts.rt:187:23
 transfer-of-requires : tie.Need-transfer-of-requires
 transfer-of-requires c κs = search needs
 
--- src/parts.rt:173:1
 returns : tie.Need-returns
 returns c = rw (c .match .keys1)
 
--- src/parts.rt:173:1
 returns-2 : tie.Need-returns-2
 returns-2 c = rw (c .match .keys2)
 
--- src/parts.rt:173:1
 returns-3 : tie.Need-returns-3
 returns-3 c = rw (c .before .match .keys3, c .cursor-of .ensures)
 
--- src/parts.rt:173:1
 returns-4 : tie.Need-returns-4
-returns-4 c = let n = c .before .match .rest in rw (ne-eqb _ 0 (n .0 .0 .1), ne-eqb _ 1 (n .0 .1), ne-eqb _ 2 (n .1), c .transfer-of .ensures)
+returns-4 c =
+    let n = c .before .match .rest in rw (ne-eqb _ 0 (n .0 .0 .1), ne-eqb _ 1 (n .0 .1), ne-eqb _ 2 (n .1), c .transfer-of .ensures)
 
 pub work-of-spec : {M : Type 1} → statement M
 work-of-spec =

@@ -2,61 +2,43 @@
 use borrow.Author.Needs.{needs}
 use Rattle.mirror.proofs.parts.work_plain.Statement.{statement}
 use Rattle.mirror.proofs.parts.work_plain.Tie as tie
-use Rattle.mirror.proofs.parts.work_plain.Reads as reads
-use Rattle.mirror.proofs.parts.work_plain.Lts as lts
-use Rattle.mirror.proofs.numbers.transfer_number.Reads as transfer-number-reads
-use Rattle.mirror.proofs.parts.cursor_plain.Reads as cursor-plain-reads
-use Rattle.mirror.proofs.parts.plain_work.Reads as plain-work-reads
 
--- src/parts.rt:212:23
 enum-told : tie.Need-enum-told
 enum-told c = search needs
 
--- src/parts.rt:212:23
 plain-work-requires : tie.Need-plain-work-requires
 plain-work-requires c κs = search needs
 
--- src/parts.rt:213:24
 enum-known-w : tie.Need-enum-known-w
 enum-known-w c = search needs
 
--- src/parts.rt:213:36
 plain-work-requires-2 : tie.Need-plain-work-requires-2
 plain-work-requires-2 c κs = search needs
 
--- src/parts.rt:214:27
 enum-known-w-2 : tie.Need-enum-known-w-2
 enum-known-w-2 c = search needs
 
--- src/parts.rt:222:20
 cursor-plain-requires : tie.Need-cursor-plain-requires
 cursor-plain-requires c κs = search needs
 
--- src/parts.rt:224:25
 enum-known-w-3 : tie.Need-enum-known-w-3
 enum-known-w-3 c = search needs
 
--- src/parts.rt:225:27
 transfer-number-requires : tie.Need-transfer-number-requires
 transfer-number-requires c κs = search needs
 
--- src/parts.rt:225:13
 plain-work-requires-3 : tie.Need-plain-work-requires-3
 plain-work-requires-3 c κs = search needs
 
--- src/parts.rt:208:1
 returns : tie.Need-returns
 returns c = rw (c .before .enum-told .given .1, c .plain-work .ensures)
 
--- src/parts.rt:208:1
 returns-2 : tie.Need-returns-2
 returns-2 c = rw (c .before .before .w .given .1, c .plain-work2 .ensures)
 
--- src/parts.rt:208:1
 returns-3 : tie.Need-returns-3
 returns-3 c = rw (c .before .before .w2 .given .1, c .cursor-plain .ensures)
 
--- src/parts.rt:208:1
 returns-4 : tie.Need-returns-4
 returns-4 c = rw (c .before .before .before .w3 .given .1, c .plain-work3 .ensures, c .before .transfer-number .ensures)
 

@@ -4,25 +4,17 @@ use borrow.Author.Tests.{lt-ltb, le-ltb}
 use borrow.Author.Needs.{needs}
 use Rattle.processor.proofs.command.begin_figure.Statement.{statement}
 use Rattle.processor.proofs.command.begin_figure.Tie as tie
-use Rattle.processor.proofs.command.begin_figure.Reads as reads
-use Rattle.processor.proofs.command.begin_figure.Lts as lts
-use Rattle.processor.proofs.command.work_on.Reads as work-on-reads
-use Rattle.registers.proofs.dots_of.Reads as dots-of-reads
 
--- src/command.rt:216:9
 dots-of-requires : tie.Need-dots-of-requires
 dots-of-requires c κs = search needs
 
--- src/command.rt:218:9
 work-on-requires : tie.Need-work-on-requires
 work-on-requires c κs = search needs
 
--- src/command.rt:218:9
 returns : tie.Need-returns
 unfolding figureBegun
 returns c = rw (c .work-on .ensures, ← c .before .before .dots-of .ensures, lt-ltb 0 _ (c .before .if1 .taken))
 
--- src/command.rt:213:1
 returns-2 : tie.Need-returns-2
 unfolding figureBegun
 returns-2 c = rw (← c .before .dots-of .ensures, le-ltb 0 _ (c .if1 .left))

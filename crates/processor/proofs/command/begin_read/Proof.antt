@@ -4,33 +4,33 @@ use borrow.Author.Tests.{lt-ltb, le-ltb}
 use borrow.Author.Needs.{needs}
 use Rattle.processor.proofs.command.begin_read.Statement.{statement}
 use Rattle.processor.proofs.command.begin_read.Tie as tie
-use Rattle.processor.proofs.command.begin_read.Reads as reads
-use Rattle.processor.proofs.command.begin_read.Lts as lts
-use Rattle.processor.proofs.command.no_entries.Reads as no-entries-reads
-use Rattle.processor.proofs.command.turn.Reads as turn-reads
-use Rattle.processor.proofs.command.work_on.Reads as work-on-reads
 
--- src/command.rt:239:21
 no-entries-requires : tie.Need-no-entries-requires
 no-entries-requires c κs = search needs
 
--- src/command.rt:239:9
 turn-requires : tie.Need-turn-requires
 turn-requires c κs = search needs
 
--- src/command.rt:241:9
 work-on-requires : tie.Need-work-on-requires
 work-on-requires c κs = search needs
 
--- src/command.rt:241:9
 returns : tie.Need-returns
 unfolding readBegun
-returns c = rw (c .work-on .ensures, c .before .before .before .turn .ensures, c .before .before .before .before .no-entries .ensures, lt-ltb 0 (c .before .before .before .before .before .args .r .drawing .dc) (c .before .if1 .taken))
+returns c = rw (
+  c .work-on .ensures,
+  c .before .before .before .turn .ensures,
+  c .before .before .before .before .no-entries .ensures,
+  lt-ltb 0 (c .before .before .before .before .before .args .r .drawing .dc) (c .before .if1 .taken),
+)
 
--- src/command.rt:236:1
 returns-2 : tie.Need-returns-2
 unfolding readBegun
-returns-2 c = rw (c .before .before .turn .ensures, c .before .before .before .no-entries .ensures, le-ltb 0 (c .before .before .before .before .args .r .drawing .dc) (c .if1 .left))
+returns-2 c =
+    rw (
+      c .before .before .turn .ensures,
+      c .before .before .before .no-entries .ensures,
+      le-ltb 0 (c .before .before .before .before .args .r .drawing .dc) (c .if1 .left),
+    )
 
 pub begin-read-spec : {M : Type 1} → statement M
 begin-read-spec =

@@ -6,222 +6,185 @@ use mathlib.Core.Path.{refl, _∙_, ap}
 use borrow.Author.Needs.{needs}
 use Rattle.processor.proofs.command.command_taken.Statement.{statement}
 use Rattle.processor.proofs.command.command_taken.Tie as tie
-use Rattle.processor.proofs.command.command_taken.Reads as reads
-use Rattle.processor.proofs.command.command_taken.Lts as lts
-use Rattle.commands.proofs.command_of.Reads as command-of-reads
-use Rattle.processor.proofs.command.begin.Reads as begin-reads
-use Rattle.processor.proofs.command.begin_character.Reads as begin-character-reads
-use Rattle.processor.proofs.command.begin_figure.Reads as begin-figure-reads
-use Rattle.processor.proofs.command.begin_read.Reads as begin-read-reads
-use Rattle.processor.proofs.command.cursor_bytes.Reads as cursor-bytes-reads
-use Rattle.processor.proofs.command.master.Reads as master-reads
-use Rattle.processor.proofs.command.operate.Reads as operate-reads
-use Rattle.processor.proofs.command.operation_of.Reads as operation-of-reads
-use Rattle.processor.proofs.command.pen_given.Reads as pen-given-reads
-use Rattle.processor.proofs.command.refresh.Reads as refresh-reads
-use Rattle.processor.proofs.command.reset_done.Reads as reset-done-reads
-use Rattle.processor.proofs.command.start.Reads as start-reads
-use Rattle.processor.proofs.command.turn.Reads as turn-reads
 
--- src/command.rt:251:9
 command-of-requires : tie.Need-command-of-requires
 command-of-requires c κs = search needs
 
--- src/command.rt:252:9
 begin-requires : tie.Need-begin-requires
 begin-requires c κs = search needs
 
--- src/command.rt:254:29
 enum-told : tie.Need-enum-told
 enum-told c = search needs
 
--- src/command.rt:255:27
 enum-told-2 : tie.Need-enum-told-2
 enum-told-2 c = search needs
 
--- src/command.rt:255:27
 reset-done-requires : tie.Need-reset-done-requires
 reset-done-requires c κs = search needs
 
--- src/command.rt:256:37
 enum-told-3 : tie.Need-enum-told-3
 enum-told-3 c = search needs
 
--- src/command.rt:256:27
 master-requires : tie.Need-master-requires
 master-requires c κs = search needs
 
--- src/command.rt:257:27
 enum-told-4 : tie.Need-enum-told-4
 enum-told-4 c = search needs
 
--- src/command.rt:258:27
 enum-told-5 : tie.Need-enum-told-5
 enum-told-5 c = search needs
 
--- src/command.rt:258:27
 start-requires : tie.Need-start-requires
 start-requires c κs = search needs
 
--- src/command.rt:259:26
 enum-told-6 : tie.Need-enum-told-6
 enum-told-6 c = search needs
 
--- src/command.rt:260:26
 enum-told-7 : tie.Need-enum-told-7
 enum-told-7 c = search needs
 
--- src/command.rt:261:26
 enum-told-8 : tie.Need-enum-told-8
 enum-told-8 c = search needs
 
--- src/command.rt:262:27
 enum-told-9 : tie.Need-enum-told-9
 enum-told-9 c = search needs
 
--- src/command.rt:263:26
 enum-told-10 : tie.Need-enum-told-10
 enum-told-10 c = search needs
 
--- src/command.rt:264:26
 enum-told-11 : tie.Need-enum-told-11
 enum-told-11 c = search needs
 
--- src/command.rt:264:26
 refresh-requires : tie.Need-refresh-requires
 refresh-requires c κs = search needs
 
--- src/command.rt:265:26
 enum-told-12 : tie.Need-enum-told-12
 enum-told-12 c = search needs
 
--- src/command.rt:265:26
 begin-figure-requires : tie.Need-begin-figure-requires
 begin-figure-requires c κs = search needs
 
--- src/command.rt:266:27
 enum-told-13 : tie.Need-enum-told-13
 enum-told-13 c = search needs
 
--- src/command.rt:266:27
 begin-character-requires : tie.Need-begin-character-requires
 begin-character-requires c κs = search needs
 
--- src/command.rt:267:34
 enum-told-14 : tie.Need-enum-told-14
 enum-told-14 c = search needs
 
--- src/command.rt:267:34
 cursor-bytes-requires : tie.Need-cursor-bytes-requires
 cursor-bytes-requires c κs = search needs
 
--- src/command.rt:267:26
 turn-requires : tie.Need-turn-requires
 turn-requires c κs = search needs
 
--- src/command.rt:268:26
 enum-told-15 : tie.Need-enum-told-15
 enum-told-15 c = search needs
 
--- src/command.rt:268:26
 pen-given-requires : tie.Need-pen-given-requires
 pen-given-requires c κs = search needs
 
--- src/command.rt:269:40
 enum-told-16 : tie.Need-enum-told-16
 enum-told-16 c = search needs
 
--- src/command.rt:269:40
 operation-of-requires : tie.Need-operation-of-requires
 operation-of-requires c κs = search needs
 
--- src/command.rt:269:29
 operate-requires : tie.Need-operate-requires
 operate-requires c κs = search needs
 
--- src/command.rt:270:23
 enum-known-c : tie.Need-enum-known-c
 enum-known-c c = search needs
 
--- src/command.rt:270:29
 begin-read-requires : tie.Need-begin-read-requires
 begin-read-requires c κs = search needs
 
--- src/command.rt:271:29
 enum-told-17 : tie.Need-enum-told-17
 enum-told-17 c = search needs
 
--- src/command.rt:248:1
 returns : tie.Need-returns
 returns c = taken-by _ _ (c .before .before .before .command-of .ensures) (c .before .before .begin .ensures) (c .enum-told .given .1) refl
 
--- src/command.rt:248:1
 returns-2 : tie.Need-returns-2
-returns-2 c = taken-by _ _ (c .before .before .before .before .command-of .ensures) (c .before .before .before .begin .ensures) (c .before .enum-told2 .given .1) (c .reset-done .ensures)
+returns-2 c =
+    taken-by _ _ (c .before .before .before .before .command-of .ensures) (c .before .before .before .begin .ensures)
+    (c .before .enum-told2 .given .1) (c .reset-done .ensures)
 
--- src/command.rt:248:1
 returns-3 : tie.Need-returns-3
-returns-3 c = taken-by _ _ (c .before .before .before .before .command-of .ensures) (c .before .before .before .begin .ensures) (c .before .enum-told3 .given .1) (c .master .ensures)
+returns-3 c =
+    taken-by _ _ (c .before .before .before .before .command-of .ensures) (c .before .before .before .begin .ensures)
+    (c .before .enum-told3 .given .1) (c .master .ensures)
 
--- src/command.rt:248:1
 returns-4 : tie.Need-returns-4
-returns-4 c = taken-by _ _ (c .before .before .before .command-of .ensures) (c .before .before .begin .ensures) (c .enum-told4 .given .1) refl
+returns-4 c =
+    taken-by _ _ (c .before .before .before .command-of .ensures) (c .before .before .begin .ensures) (c .enum-told4 .given .1) refl
 
--- src/command.rt:248:1
 returns-5 : tie.Need-returns-5
-returns-5 c = taken-by _ _ (c .before .before .before .before .command-of .ensures) (c .before .before .before .begin .ensures) (c .before .enum-told5 .given .1) (c .start .ensures)
+returns-5 c =
+    taken-by _ _ (c .before .before .before .before .command-of .ensures) (c .before .before .before .begin .ensures)
+    (c .before .enum-told5 .given .1) (c .start .ensures)
 
--- src/command.rt:248:1
 returns-6 : tie.Need-returns-6
-returns-6 c = taken-by _ _ (c .before .before .before .command-of .ensures) (c .before .before .begin .ensures) (c .enum-told6 .given .1) refl
+returns-6 c =
+    taken-by _ _ (c .before .before .before .command-of .ensures) (c .before .before .begin .ensures) (c .enum-told6 .given .1) refl
 
--- src/command.rt:248:1
 returns-7 : tie.Need-returns-7
-returns-7 c = taken-by _ _ (c .before .before .before .command-of .ensures) (c .before .before .begin .ensures) (c .enum-told7 .given .1) refl
+returns-7 c =
+    taken-by _ _ (c .before .before .before .command-of .ensures) (c .before .before .begin .ensures) (c .enum-told7 .given .1) refl
 
--- src/command.rt:248:1
 returns-8 : tie.Need-returns-8
-returns-8 c = taken-by _ _ (c .before .before .before .command-of .ensures) (c .before .before .begin .ensures) (c .enum-told8 .given .1) refl
+returns-8 c =
+    taken-by _ _ (c .before .before .before .command-of .ensures) (c .before .before .begin .ensures) (c .enum-told8 .given .1) refl
 
--- src/command.rt:248:1
 returns-9 : tie.Need-returns-9
-returns-9 c = taken-by _ _ (c .before .before .before .command-of .ensures) (c .before .before .begin .ensures) (c .enum-told9 .given .1) refl
+returns-9 c =
+    taken-by _ _ (c .before .before .before .command-of .ensures) (c .before .before .begin .ensures) (c .enum-told9 .given .1) refl
 
--- src/command.rt:248:1
 returns-10 : tie.Need-returns-10
-returns-10 c = taken-by _ _ (c .before .before .before .command-of .ensures) (c .before .before .begin .ensures) (c .enum-told10 .given .1) refl
+returns-10 c =
+    taken-by _ _ (c .before .before .before .command-of .ensures) (c .before .before .begin .ensures) (c .enum-told10 .given .1) refl
 
--- src/command.rt:248:1
 returns-11 : tie.Need-returns-11
-returns-11 c = taken-by _ _ (c .before .before .before .before .command-of .ensures) (c .before .before .before .begin .ensures) (c .before .enum-told11 .given .1) (c .refresh .ensures)
+returns-11 c =
+    taken-by _ _ (c .before .before .before .before .command-of .ensures) (c .before .before .before .begin .ensures)
+    (c .before .enum-told11 .given .1) (c .refresh .ensures)
 
--- src/command.rt:248:1
 returns-12 : tie.Need-returns-12
-returns-12 c = taken-by _ _ (c .before .before .before .before .command-of .ensures) (c .before .before .before .begin .ensures) (c .before .enum-told12 .given .1) (c .begin-figure .ensures)
+returns-12 c =
+    taken-by _ _ (c .before .before .before .before .command-of .ensures) (c .before .before .before .begin .ensures)
+    (c .before .enum-told12 .given .1) (c .begin-figure .ensures)
 
--- src/command.rt:248:1
 returns-13 : tie.Need-returns-13
-returns-13 c = taken-by _ _ (c .before .before .before .before .command-of .ensures) (c .before .before .before .begin .ensures) (c .before .enum-told13 .given .1) (c .begin-character .ensures)
+returns-13 c =
+    taken-by _ _ (c .before .before .before .before .command-of .ensures) (c .before .before .before .begin .ensures)
+    (c .before .enum-told13 .given .1) (c .begin-character .ensures)
 
--- src/command.rt:248:1
 returns-14 : tie.Need-returns-14
-returns-14 c = taken-by _ _ (c .before .before .before .before .before .command-of .ensures) (c .before .before .before .before .begin .ensures) (c .before .before .enum-told14 .given .1) (c .turn .ensures ∙ ap (turned (c .before .before .before .before .begin .result)) (c .before .cursor-bytes .ensures))
+returns-14 c =
+    taken-by _ _ (c .before .before .before .before .before .command-of .ensures) (c .before .before .before .before .begin .ensures)
+    (c .before .before .enum-told14 .given .1)
+    (c .turn .ensures ∙ ap (turned (c .before .before .before .before .begin .result)) (c .before .cursor-bytes .ensures))
 
--- src/command.rt:248:1
 returns-15 : tie.Need-returns-15
-returns-15 c = taken-by _ _ (c .before .before .before .before .command-of .ensures) (c .before .before .before .begin .ensures) (c .before .enum-told15 .given .1) (c .pen-given .ensures)
+returns-15 c =
+    taken-by _ _ (c .before .before .before .before .command-of .ensures) (c .before .before .before .begin .ensures)
+    (c .before .enum-told15 .given .1) (c .pen-given .ensures)
 
--- src/command.rt:248:1
 returns-16 : tie.Need-returns-16
-returns-16 c = taken-by _ _ (c .before .before .before .before .before .command-of .ensures) (c .before .before .before .before .begin .ensures) (c .before .before .enum-told16 .given .1) (c .operate .ensures ∙ ap (putOp (c .before .before .before .before .begin .result)) (c .before .operation-of .ensures))
+returns-16 c =
+    taken-by _ _ (c .before .before .before .before .before .command-of .ensures) (c .before .before .before .before .begin .ensures)
+    (c .before .before .enum-told16 .given .1)
+    (c .operate .ensures ∙ ap (putOp (c .before .before .before .before .begin .result)) (c .before .operation-of .ensures))
 
--- src/command.rt:248:1
 returns-17 : tie.Need-returns-17
-returns-17 c = taken-by _ _ (c .before .before .before .before .before .command-of .ensures) (c .before .before .before .before .begin .ensures) (c .before .before .c .given .1) (c .begin-read .ensures)
+returns-17 c =
+    taken-by _ _ (c .before .before .before .before .before .command-of .ensures) (c .before .before .before .before .begin .ensures)
+    (c .before .before .c .given .1) (c .begin-read .ensures)
 
--- src/command.rt:248:1
 returns-18 : tie.Need-returns-18
-returns-18 c = taken-by _ _ (c .before .before .before .command-of .ensures) (c .before .before .begin .ensures) (c .enum-told17 .given .1) refl
+returns-18 c =
+    taken-by _ _ (c .before .before .before .command-of .ensures) (c .before .before .begin .ensures) (c .enum-told17 .given .1) refl
 
 pub command-taken-spec : {M : Type 1} → statement M
 command-taken-spec =

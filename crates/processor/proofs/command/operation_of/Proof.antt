@@ -3,25 +3,19 @@ use Rattle.processor.specs.Command.{operationOf}
 use borrow.Author.Tests.{ne-eqb}
 use Rattle.processor.proofs.command.operation_of.Statement.{statement}
 use Rattle.processor.proofs.command.operation_of.Tie as tie
-use Rattle.processor.proofs.command.operation_of.Reads as reads
-use Rattle.processor.proofs.command.operation_of.Lts as lts
 
--- src/command.rt:153:1
 returns : tie.Need-returns
 unfolding operationOf
 returns c = rw (c .match .keys1)
 
--- src/command.rt:153:1
 returns-2 : tie.Need-returns-2
 unfolding operationOf
 returns-2 c = rw (c .match .keys2)
 
--- src/command.rt:153:1
 returns-3 : tie.Need-returns-3
 unfolding operationOf
 returns-3 c = rw (c .match .keys3)
 
--- src/command.rt:153:1
 returns-4 : tie.Need-returns-4
 unfolding operationOf
 returns-4 c = let n = c .match .rest in

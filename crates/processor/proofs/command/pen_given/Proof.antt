@@ -2,20 +2,13 @@
 use borrow.Author.Needs.{needs}
 use Rattle.processor.proofs.command.pen_given.Statement.{statement}
 use Rattle.processor.proofs.command.pen_given.Tie as tie
-use Rattle.processor.proofs.command.pen_given.Reads as reads
-use Rattle.processor.proofs.command.pen_given.Lts as lts
-use Rattle.processor.proofs.command.pen_bytes.Reads as pen-bytes-reads
-use Rattle.processor.proofs.command.turn.Reads as turn-reads
 
--- src/command.rt:149:13
 pen-bytes-requires : tie.Need-pen-bytes-requires
 pen-bytes-requires c κs = search needs
 
--- src/command.rt:149:5
 turn-requires : tie.Need-turn-requires
 turn-requires c κs = search needs
 
--- src/command.rt:144:1
 returns : tie.Need-returns
 returns c = rw (c .turn .ensures, c .before .pen-bytes .ensures)
 

@@ -4,19 +4,14 @@ use borrow.Author.Tests.{lt-ltb, le-ltb}
 use borrow.Author.Needs.{needs}
 use Rattle.processor.proofs.parameter.cchar_byte.Statement.{statement}
 use Rattle.processor.proofs.parameter.cchar_byte.Tie as tie
-use Rattle.processor.proofs.parameter.cchar_byte.Reads as reads
-use Rattle.processor.proofs.parameter.cchar_byte.Lts as lts
 
--- src/parameter.rt:156:9
 element-write-n : tie.Need-element-write-n
 element-write-n c = search needs
 
--- src/parameter.rt:157:9
 returns : tie.Need-returns
 unfolding ccharBy
 returns c = rw (lt-ltb (c .before .args .i) 3 (c .if1 .taken))
 
--- src/parameter.rt:150:1
 returns-2 : tie.Need-returns-2
 unfolding ccharBy
 returns-2 c = rw (le-ltb (c .before .args .i) 3 (c .if1 .left))

@@ -4,62 +4,46 @@ use borrow.Author.Tests.{ne-eqb}
 use borrow.Author.Needs.{needs}
 use Rattle.processor.proofs.parameter.curs_byte.Statement.{statement}
 use Rattle.processor.proofs.parameter.curs_byte.Tie as tie
-use Rattle.processor.proofs.parameter.curs_byte.Reads as reads
-use Rattle.processor.proofs.parameter.curs_byte.Lts as lts
-use Rattle.processor.proofs.parameter.dot_mask.Reads as dot-mask-reads
 
--- src/parameter.rt:31:18
 mul-t6 : tie.Need-mul-t6
 mul-t6 c = search needs
 
--- src/parameter.rt:31:18
 add-t8 : tie.Need-add-t8
 add-t8 c = search needs
 
--- src/parameter.rt:35:18
 mul-t10 : tie.Need-mul-t10
 mul-t10 c = search needs
 
--- src/parameter.rt:35:42
 mul-t12 : tie.Need-mul-t12
 mul-t12 c = search needs
 
--- src/parameter.rt:35:18
 add-t13 : tie.Need-add-t13
 add-t13 c = search needs
 
--- src/parameter.rt:35:18
 add-t15 : tie.Need-add-t15
 add-t15 c = search needs
 
--- src/parameter.rt:39:18
 mul-t18 : tie.Need-mul-t18
 mul-t18 c = search needs
 
--- src/parameter.rt:39:18
 add-t20 : tie.Need-add-t20
 add-t20 c = search needs
 
--- src/parameter.rt:40:19
 dot-mask-requires : tie.Need-dot-mask-requires
 dot-mask-requires c κs = search needs
 
--- src/parameter.rt:26:1
 returns : tie.Need-returns
 unfolding cursBy
 returns c = rw (c .before .match .keys1)
 
--- src/parameter.rt:26:1
 returns-2 : tie.Need-returns-2
 unfolding cursBy
 returns-2 c = rw (c .before .before .match .keys2)
 
--- src/parameter.rt:26:1
 returns-3 : tie.Need-returns-3
 unfolding cursBy
 returns-3 c = rw (c .dot-mask .ensures, c .before .before .match .keys3)
 
--- src/parameter.rt:26:1
 returns-4 : tie.Need-returns-4
 unfolding cursBy
 returns-4 c = let n = c .match .rest in

@@ -2,18 +2,13 @@
 use Rattle.dots.proofs.Below.{below}
 use Prim.Native.Nat.{_*_, _%_, _^_}
 use lib.Dec.{eqb, eqb→eq}
-use native.Mathlib.Nat.{mod-eq-of-lt}
 use borrow.Author.Needs.{needs}
 use Rattle.processor.proofs.parameter.dot_mask.Statement.{statement}
 use Rattle.processor.proofs.parameter.dot_mask.Tie as tie
-use Rattle.processor.proofs.parameter.dot_mask.Reads as reads
-use Rattle.processor.proofs.parameter.dot_mask.Lts as lts
 
--- src/parameter.rt:22:5
 shl-result : tie.Need-shl-result
 shl-result c = search needs
 
--- src/parameter.rt:18:1
 returns : tie.Need-returns
 returns c = eqb→eq _ _ (below (λ k. eqb (1 * 2 ^ k % 65536) (2 ^ k)) 16 tt (c .args .n) (search needs))
 

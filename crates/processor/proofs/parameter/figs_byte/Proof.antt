@@ -4,107 +4,81 @@ use borrow.Author.Tests.{ne-eqb}
 use borrow.Author.Needs.{needs}
 use Rattle.processor.proofs.parameter.figs_byte.Statement.{statement}
 use Rattle.processor.proofs.parameter.figs_byte.Tie as tie
-use Rattle.processor.proofs.parameter.figs_byte.Reads as reads
-use Rattle.processor.proofs.parameter.figs_byte.Lts as lts
-use Rattle.processor.proofs.parameter.high_six.Reads as high-six-reads
-use Rattle.processor.proofs.parameter.low_byte.Reads as low-byte-reads
 
--- src/parameter.rt:93:17
 low-byte-requires : tie.Need-low-byte-requires
 low-byte-requires c κs = search needs
 
--- src/parameter.rt:97:17
 high-six-requires : tie.Need-high-six-requires
 high-six-requires c κs = search needs
 
--- src/parameter.rt:102:16
 low-byte-requires-2 : tie.Need-low-byte-requires-2
 low-byte-requires-2 c κs = search needs
 
--- src/parameter.rt:106:16
 high-six-requires-2 : tie.Need-high-six-requires-2
 high-six-requires-2 c κs = search needs
 
--- src/parameter.rt:110:17
 low-byte-requires-3 : tie.Need-low-byte-requires-3
 low-byte-requires-3 c κs = search needs
 
--- src/parameter.rt:114:17
 high-six-requires-3 : tie.Need-high-six-requires-3
 high-six-requires-3 c κs = search needs
 
--- src/parameter.rt:118:17
 low-byte-requires-4 : tie.Need-low-byte-requires-4
 low-byte-requires-4 c κs = search needs
 
--- src/parameter.rt:122:17
 high-six-requires-4 : tie.Need-high-six-requires-4
 high-six-requires-4 c κs = search needs
 
--- src/parameter.rt:126:17
 low-byte-requires-5 : tie.Need-low-byte-requires-5
 low-byte-requires-5 c κs = search needs
 
--- src/parameter.rt:130:17
 high-six-requires-5 : tie.Need-high-six-requires-5
 high-six-requires-5 c κs = search needs
 
--- src/parameter.rt:83:1
 returns : tie.Need-returns
 unfolding figsBy
 returns c = rw (c .match .keys1)
 
--- src/parameter.rt:83:1
 returns-2 : tie.Need-returns-2
 unfolding figsBy
 returns-2 c = rw (c .low-byte .ensures, c .before .match .keys2)
 
--- src/parameter.rt:83:1
 returns-3 : tie.Need-returns-3
 unfolding figsBy
 returns-3 c = rw (c .high-six .ensures, c .before .match .keys3)
 
--- src/parameter.rt:83:1
 returns-4 : tie.Need-returns-4
 unfolding figsBy
 returns-4 c = rw (c .low-byte2 .ensures, c .before .match .keys4)
 
--- src/parameter.rt:83:1
 returns-5 : tie.Need-returns-5
 unfolding figsBy
 returns-5 c = rw (c .high-six2 .ensures, c .before .match .keys5)
 
--- src/parameter.rt:83:1
 returns-6 : tie.Need-returns-6
 unfolding figsBy
 returns-6 c = rw (c .low-byte3 .ensures, c .before .match .keys6)
 
--- src/parameter.rt:83:1
 returns-7 : tie.Need-returns-7
 unfolding figsBy
 returns-7 c = rw (c .high-six3 .ensures, c .before .match .keys7)
 
--- src/parameter.rt:83:1
 returns-8 : tie.Need-returns-8
 unfolding figsBy
 returns-8 c = rw (c .low-byte4 .ensures, c .before .match .keys8)
 
--- src/parameter.rt:83:1
 returns-9 : tie.Need-returns-9
 unfolding figsBy
 returns-9 c = rw (c .high-six4 .ensures, c .before .match .keys9)
 
--- src/parameter.rt:83:1
 returns-10 : tie.Need-returns-10
 unfolding figsBy
 returns-10 c = rw (c .low-byte5 .ensures, c .before .match .keys10)
 
--- src/parameter.rt:83:1
 returns-11 : tie.Need-returns-11
 unfolding figsBy
 returns-11 c = rw (c .high-six5 .ensures, c .before .match .keys11)
 
--- src/parameter.rt:83:1
 returns-12 : tie.Need-returns-12
 unfolding figsBy
 returns-12 c = let n = c .match .rest in

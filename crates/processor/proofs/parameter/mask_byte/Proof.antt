@@ -4,30 +4,21 @@ use borrow.Author.Tests.{ne-eqb}
 use borrow.Author.Needs.{needs}
 use Rattle.processor.proofs.parameter.mask_byte.Statement.{statement}
 use Rattle.processor.proofs.parameter.mask_byte.Tie as tie
-use Rattle.processor.proofs.parameter.mask_byte.Reads as reads
-use Rattle.processor.proofs.parameter.mask_byte.Lts as lts
-use Rattle.processor.proofs.parameter.high_byte.Reads as high-byte-reads
-use Rattle.processor.proofs.parameter.low_byte.Reads as low-byte-reads
 
--- src/parameter.rt:72:19
 low-byte-requires : tie.Need-low-byte-requires
 low-byte-requires c κs = search needs
 
--- src/parameter.rt:76:19
 high-byte-requires : tie.Need-high-byte-requires
 high-byte-requires c κs = search needs
 
--- src/parameter.rt:66:1
 returns : tie.Need-returns
 unfolding maskBy
 returns c = rw (c .low-byte .ensures, c .before .match .keys1)
 
--- src/parameter.rt:66:1
 returns-2 : tie.Need-returns-2
 unfolding maskBy
 returns-2 c = rw (c .high-byte .ensures, c .before .match .keys2)
 
--- src/parameter.rt:66:1
 returns-3 : tie.Need-returns-3
 unfolding maskBy
 returns-3 c = let n = c .match .rest in

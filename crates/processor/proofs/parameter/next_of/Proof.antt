@@ -4,19 +4,14 @@ use borrow.Author.Tests.{lt-ltb, le-ltb}
 use borrow.Author.Needs.{needs}
 use Rattle.processor.proofs.parameter.next_of.Statement.{statement}
 use Rattle.processor.proofs.parameter.next_of.Tie as tie
-use Rattle.processor.proofs.parameter.next_of.Reads as reads
-use Rattle.processor.proofs.parameter.next_of.Lts as lts
 
--- src/parameter.rt:237:16
 add-result : tie.Need-add-result
 add-result c = search needs
 
--- src/parameter.rt:237:9
 returns : tie.Need-returns
 unfolding nextOf
 returns c = rw (lt-ltb (c .before .args .i) 16 (c .if1 .taken))
 
--- src/parameter.rt:233:1
 returns-2 : tie.Need-returns-2
 unfolding nextOf
 returns-2 c = rw (le-ltb (c .before .args .i) 16 (c .if1 .left))

@@ -5,231 +5,184 @@ use mathlib.Core.Path.{refl, _∙_, ap}
 use borrow.Author.Needs.{needs}
 use Rattle.processor.proofs.parameter.parameter_taken.Statement.{statement}
 use Rattle.processor.proofs.parameter.parameter_taken.Tie as tie
-use Rattle.processor.proofs.parameter.parameter_taken.Reads as reads
-use Rattle.processor.proofs.parameter.parameter_taken.Lts as lts
-use Rattle.processor.proofs.parameter.cchar_byte.Reads as cchar-byte-reads
-use Rattle.processor.proofs.parameter.count.Reads as count-reads
-use Rattle.processor.proofs.parameter.curs_byte.Reads as curs-byte-reads
-use Rattle.processor.proofs.parameter.figs_byte.Reads as figs-byte-reads
-use Rattle.processor.proofs.parameter.mask_byte.Reads as mask-byte-reads
-use Rattle.processor.proofs.parameter.pitch_byte.Reads as pitch-byte-reads
-use Rattle.processor.proofs.parameter.put_cursor.Reads as put-cursor-reads
-use Rattle.processor.proofs.parameter.put_drawing.Reads as put-drawing-reads
-use Rattle.processor.proofs.parameter.put_video.Reads as put-video-reads
-use Rattle.processor.proofs.parameter.ram_byte.Reads as ram-byte-reads
-use Rattle.processor.proofs.parameter.sync_byte.Reads as sync-byte-reads
-use Rattle.processor.proofs.parameter.zoom_byte.Reads as zoom-byte-reads
-use Rattle.processor.proofs.wdat.wdat_taken.Reads as wdat-taken-reads
 
--- src/parameter.rt:249:9
 count-requires : tie.Need-count-requires
 count-requires c κs = search needs
 
--- src/parameter.rt:251:29
 enum-told : tie.Need-enum-told
 enum-told c = search needs
 
--- src/parameter.rt:252:40
 enum-told-2 : tie.Need-enum-told-2
 enum-told-2 c = search needs
 
--- src/parameter.rt:252:40
 sync-byte-requires : tie.Need-sync-byte-requires
 sync-byte-requires c κs = search needs
 
--- src/parameter.rt:252:27
 put-video-requires : tie.Need-put-video-requires
 put-video-requires c κs = search needs
 
--- src/parameter.rt:253:27
 enum-told-3 : tie.Need-enum-told-3
 enum-told-3 c = search needs
 
--- src/parameter.rt:254:40
 enum-told-4 : tie.Need-enum-told-4
 enum-told-4 c = search needs
 
--- src/parameter.rt:254:40
 cchar-byte-requires : tie.Need-cchar-byte-requires
 cchar-byte-requires c κs = search needs
 
--- src/parameter.rt:254:27
 put-video-requires-2 : tie.Need-put-video-requires-2
 put-video-requires-2 c κs = search needs
 
--- src/parameter.rt:255:27
 enum-told-5 : tie.Need-enum-told-5
 enum-told-5 c = search needs
 
--- src/parameter.rt:256:39
 enum-told-6 : tie.Need-enum-told-6
 enum-told-6 c = search needs
 
--- src/parameter.rt:256:39
 zoom-byte-requires : tie.Need-zoom-byte-requires
 zoom-byte-requires c κs = search needs
 
--- src/parameter.rt:256:26
 put-video-requires-3 : tie.Need-put-video-requires-3
 put-video-requires-3 c κs = search needs
 
--- src/parameter.rt:257:40
 enum-told-7 : tie.Need-enum-told-7
 enum-told-7 c = search needs
 
--- src/parameter.rt:257:40
 curs-byte-requires : tie.Need-curs-byte-requires
 curs-byte-requires c κs = search needs
 
--- src/parameter.rt:257:26
 put-cursor-requires : tie.Need-put-cursor-requires
 put-cursor-requires c κs = search needs
 
--- src/parameter.rt:258:26
 enum-told-8 : tie.Need-enum-told-8
 enum-told-8 c = search needs
 
--- src/parameter.rt:258:26
 ram-byte-requires : tie.Need-ram-byte-requires
 ram-byte-requires c κs = search needs
 
--- src/parameter.rt:259:27
 enum-told-9 : tie.Need-enum-told-9
 enum-told-9 c = search needs
 
--- src/parameter.rt:259:27
 pitch-byte-requires : tie.Need-pitch-byte-requires
 pitch-byte-requires c κs = search needs
 
--- src/parameter.rt:260:40
 enum-told-10 : tie.Need-enum-told-10
 enum-told-10 c = search needs
 
--- src/parameter.rt:260:40
 mask-byte-requires : tie.Need-mask-byte-requires
 mask-byte-requires c κs = search needs
 
--- src/parameter.rt:260:26
 put-cursor-requires-2 : tie.Need-put-cursor-requires-2
 put-cursor-requires-2 c κs = search needs
 
--- src/parameter.rt:261:41
 enum-told-11 : tie.Need-enum-told-11
 enum-told-11 c = search needs
 
--- src/parameter.rt:261:41
 figs-byte-requires : tie.Need-figs-byte-requires
 figs-byte-requires c κs = search needs
 
--- src/parameter.rt:261:26
 put-drawing-requires : tie.Need-put-drawing-requires
 put-drawing-requires c κs = search needs
 
--- src/parameter.rt:262:26
 enum-told-12 : tie.Need-enum-told-12
 enum-told-12 c = search needs
 
--- src/parameter.rt:263:27
 enum-told-13 : tie.Need-enum-told-13
 enum-told-13 c = search needs
 
--- src/parameter.rt:264:26
 enum-told-14 : tie.Need-enum-told-14
 enum-told-14 c = search needs
 
--- src/parameter.rt:265:26
 enum-told-15 : tie.Need-enum-told-15
 enum-told-15 c = search needs
 
--- src/parameter.rt:266:23
 enum-known-c : tie.Need-enum-known-c
 enum-known-c c = search needs
 
--- src/parameter.rt:266:29
 wdat-taken-requires : tie.Need-wdat-taken-requires
 wdat-taken-requires c κs = search needs
 
--- src/parameter.rt:267:29
 enum-told-16 : tie.Need-enum-told-16
 enum-told-16 c = search needs
 
--- src/parameter.rt:268:29
 enum-told-17 : tie.Need-enum-told-17
 enum-told-17 c = search needs
 
--- src/parameter.rt:243:1
 returns : tie.Need-returns
 returns c = parameter-by _ _ _ (c .before .before .count .ensures) (c .enum-told .given .1) refl
 
--- src/parameter.rt:243:1
 returns-2 : tie.Need-returns-2
-returns-2 c = parameter-by _ _ _ (c .before .before .before .before .count .ensures) (c .before .before .enum-told2 .given .1) (still _ (c .put-video .ensures ∙ ap (putVideo (c .before .before .before .before .count .result)) (c .before .sync-byte .ensures)))
+returns-2 c =
+    parameter-by _ _ _ (c .before .before .before .before .count .ensures) (c .before .before .enum-told2 .given .1)
+    (still _ (c .put-video .ensures ∙ ap (putVideo (c .before .before .before .before .count .result)) (c .before .sync-byte .ensures)))
 
--- src/parameter.rt:243:1
 returns-3 : tie.Need-returns-3
 returns-3 c = parameter-by _ _ _ (c .before .before .count .ensures) (c .enum-told3 .given .1) refl
 
--- src/parameter.rt:243:1
 returns-4 : tie.Need-returns-4
-returns-4 c = parameter-by _ _ _ (c .before .before .before .before .count .ensures) (c .before .before .enum-told4 .given .1) (still _ (c .put-video2 .ensures ∙ ap (putVideo (c .before .before .before .before .count .result)) (c .before .cchar-byte .ensures)))
+returns-4 c =
+    parameter-by _ _ _ (c .before .before .before .before .count .ensures) (c .before .before .enum-told4 .given .1)
+    (still _ (c .put-video2 .ensures ∙ ap (putVideo (c .before .before .before .before .count .result))
+    (c .before .cchar-byte .ensures)))
 
--- src/parameter.rt:243:1
 returns-5 : tie.Need-returns-5
 returns-5 c = parameter-by _ _ _ (c .before .before .count .ensures) (c .enum-told5 .given .1) refl
 
--- src/parameter.rt:243:1
 returns-6 : tie.Need-returns-6
-returns-6 c = parameter-by _ _ _ (c .before .before .before .before .count .ensures) (c .before .before .enum-told6 .given .1) (still _ (c .put-video3 .ensures ∙ ap (putVideo (c .before .before .before .before .count .result)) (c .before .zoom-byte .ensures)))
+returns-6 c =
+    parameter-by _ _ _ (c .before .before .before .before .count .ensures) (c .before .before .enum-told6 .given .1)
+    (still _ (c .put-video3 .ensures ∙ ap (putVideo (c .before .before .before .before .count .result))
+    (c .before .zoom-byte .ensures)))
 
--- src/parameter.rt:243:1
 returns-7 : tie.Need-returns-7
-returns-7 c = parameter-by _ _ _ (c .before .before .before .before .count .ensures) (c .before .before .enum-told7 .given .1) (still _ (c .put-cursor .ensures ∙ ap (putCursor (c .before .before .before .before .count .result)) (c .before .curs-byte .ensures)))
+returns-7 c =
+    parameter-by _ _ _ (c .before .before .before .before .count .ensures) (c .before .before .enum-told7 .given .1)
+    (still _ (c .put-cursor .ensures ∙ ap (putCursor (c .before .before .before .before .count .result))
+    (c .before .curs-byte .ensures)))
 
--- src/parameter.rt:243:1
 returns-8 : tie.Need-returns-8
-returns-8 c = parameter-by _ _ _ (c .before .before .before .count .ensures) (c .before .enum-told8 .given .1) (still _ (c .ram-byte .ensures))
+returns-8 c =
+    parameter-by _ _ _ (c .before .before .before .count .ensures) (c .before .enum-told8 .given .1) (still _ (c .ram-byte .ensures))
 
--- src/parameter.rt:243:1
 returns-9 : tie.Need-returns-9
-returns-9 c = parameter-by _ _ _ (c .before .before .before .count .ensures) (c .before .enum-told9 .given .1) (still _ (c .pitch-byte .ensures))
+returns-9 c =
+    parameter-by _ _ _ (c .before .before .before .count .ensures) (c .before .enum-told9 .given .1) (still _ (c .pitch-byte .ensures))
 
--- src/parameter.rt:243:1
 returns-10 : tie.Need-returns-10
-returns-10 c = parameter-by _ _ _ (c .before .before .before .before .count .ensures) (c .before .before .enum-told10 .given .1) (still _ (c .put-cursor2 .ensures ∙ ap (putCursor (c .before .before .before .before .count .result)) (c .before .mask-byte .ensures)))
+returns-10 c =
+    parameter-by _ _ _ (c .before .before .before .before .count .ensures) (c .before .before .enum-told10 .given .1)
+    (still _ (c .put-cursor2 .ensures ∙ ap (putCursor (c .before .before .before .before .count .result))
+    (c .before .mask-byte .ensures)))
 
--- src/parameter.rt:243:1
 returns-11 : tie.Need-returns-11
-returns-11 c = parameter-by _ _ _ (c .before .before .before .before .count .ensures) (c .before .before .enum-told11 .given .1) (still _ (c .put-drawing .ensures ∙ ap (putDrawing (c .before .before .before .before .count .result)) (c .before .figs-byte .ensures)))
+returns-11 c =
+    parameter-by _ _ _ (c .before .before .before .before .count .ensures) (c .before .before .enum-told11 .given .1)
+    (still _ (c .put-drawing .ensures ∙ ap (putDrawing (c .before .before .before .before .count .result))
+    (c .before .figs-byte .ensures)))
 
--- src/parameter.rt:243:1
 returns-12 : tie.Need-returns-12
 returns-12 c = parameter-by _ _ _ (c .before .before .count .ensures) (c .enum-told12 .given .1) refl
 
--- src/parameter.rt:243:1
 returns-13 : tie.Need-returns-13
 returns-13 c = parameter-by _ _ _ (c .before .before .count .ensures) (c .enum-told13 .given .1) refl
 
--- src/parameter.rt:243:1
 returns-14 : tie.Need-returns-14
 returns-14 c = parameter-by _ _ _ (c .before .before .count .ensures) (c .enum-told14 .given .1) refl
 
--- src/parameter.rt:243:1
 returns-15 : tie.Need-returns-15
 returns-15 c = parameter-by _ _ _ (c .before .before .count .ensures) (c .enum-told15 .given .1) refl
 
--- src/parameter.rt:243:1
 same-length : tie.Need-same-length
 same-length c = search needs
 
--- src/parameter.rt:243:1
 returns-16 : tie.Need-returns-16
-returns-16 c = parameter-by _ _ _ (c .before .before .before .before .before .before .before .count .ensures) (c .before .before .before .before .before .c .given .1) (c .before .before .wdat-taken .ensures)
+returns-16 c =
+    parameter-by _ _ _ (c .before .before .before .before .before .before .before .count .ensures)
+    (c .before .before .before .before .before .c .given .1) (c .before .before .wdat-taken .ensures)
 
--- src/parameter.rt:243:1
 returns-17 : tie.Need-returns-17
 returns-17 c = parameter-by _ _ _ (c .before .before .count .ensures) (c .enum-told16 .given .1) refl
 
--- src/parameter.rt:243:1
 returns-18 : tie.Need-returns-18
 returns-18 c = parameter-by _ _ _ (c .before .before .count .ensures) (c .enum-told17 .given .1) refl
 

@@ -3,15 +3,11 @@ use Rattle.processor.specs.Parameter.{pitchBy}
 use borrow.Author.Tests.{eq-eqb, ne-eqb}
 use Rattle.processor.proofs.parameter.pitch_byte.Statement.{statement}
 use Rattle.processor.proofs.parameter.pitch_byte.Tie as tie
-use Rattle.processor.proofs.parameter.pitch_byte.Reads as reads
-use Rattle.processor.proofs.parameter.pitch_byte.Lts as lts
 
--- src/parameter.rt:193:9
 returns : tie.Need-returns
 unfolding pitchBy
 returns c = rw (eq-eqb (c .before .args .i) 0 (c .if1 .taken))
 
--- src/parameter.rt:187:1
 returns-2 : tie.Need-returns-2
 unfolding pitchBy
 returns-2 c = rw (ne-eqb (c .before .args .i) 0 (c .if1 .left))

@@ -4,19 +4,14 @@ use borrow.Author.Tests.{lt-ltb, le-ltb}
 use borrow.Author.Needs.{needs}
 use Rattle.processor.proofs.parameter.sync_byte.Statement.{statement}
 use Rattle.processor.proofs.parameter.sync_byte.Tie as tie
-use Rattle.processor.proofs.parameter.sync_byte.Reads as reads
-use Rattle.processor.proofs.parameter.sync_byte.Lts as lts
 
--- src/parameter.rt:144:9
 element-write-n : tie.Need-element-write-n
 element-write-n c = search needs
 
--- src/parameter.rt:145:9
 returns : tie.Need-returns
 unfolding syncBy
 returns c = rw (lt-ltb (c .before .args .i) 8 (c .if1 .taken))
 
--- src/parameter.rt:138:1
 returns-2 : tie.Need-returns-2
 unfolding syncBy
 returns-2 c = rw (le-ltb (c .before .args .i) 8 (c .if1 .left))

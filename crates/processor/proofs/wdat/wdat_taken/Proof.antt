@@ -4,45 +4,33 @@ use mathlib.Core.Path.{sym, _∙_}
 use borrow.Author.Needs.{needs}
 use Rattle.processor.proofs.wdat.wdat_taken.Statement.{statement}
 use Rattle.processor.proofs.wdat.wdat_taken.Tie as tie
-use Rattle.processor.proofs.wdat.wdat_taken.Reads as reads
-use Rattle.processor.proofs.wdat.wdat_taken.Lts as lts
-use Rattle.dots.proofs.cycle.Reads as cycle-reads
-use Rattle.processor.proofs.wdat.half.Reads as half-reads
-use Rattle.processor.proofs.wdat.pattern_of.Reads as pattern-of-reads
-use Rattle.processor.proofs.wdat.place.Reads as place-reads
-use Rattle.processor.proofs.wdat.set_done.Reads as set-done-reads
 
--- src/wdat.rt:61:8
 half-requires : tie.Need-half-requires
 half-requires c κs = search needs
 
--- src/wdat.rt:62:9
 place-requires : tie.Need-place-requires
 place-requires c κs = search needs
 
--- src/wdat.rt:62:9
 returns : tie.Need-returns
 returns c = wdat-half _ _ _ _ _ (sym (c .before .before .half .ensures) ∙ c .before .if1 .taken) (c .place .ensures)
 
--- src/wdat.rt:65:32
 pattern-of-requires : tie.Need-pattern-of-requires
 pattern-of-requires c κs = search needs
 
--- src/wdat.rt:65:5
 cycle-requires : tie.Need-cycle-requires
 cycle-requires c κs = search needs
 
--- src/wdat.rt:66:5
 set-done-requires : tie.Need-set-done-requires
 set-done-requires c κs = search needs
 
--- src/wdat.rt:58:1
 same-length : tie.Need-same-length
 same-length c = search needs
 
--- src/wdat.rt:58:1
 returns-2 : tie.Need-returns-2
-returns-2 c = wdat-whole _ _ _ _ _ (sym (c .before .before .before .before .before .before .before .half .ensures) ∙ c .before .before .before .before .before .before .if1 .left) (c .before .before .before .before .pattern-of .ensures) (c .before .before .before .cycle .ensures) (c .set-done .ensures)
+returns-2 c =
+    wdat-whole _ _ _ _ _ (sym (c .before .before .before .before .before .before .before .half .ensures)
+    ∙ c .before .before .before .before .before .before .if1 .left) (c .before .before .before .before .pattern-of .ensures)
+    (c .before .before .before .cycle .ensures) (c .set-done .ensures)
 
 pub wdat-taken-spec : {M : Type 1} → statement M
 wdat-taken-spec =
