@@ -1,6 +1,6 @@
 -- `send_all`: after k entries, what is left to send from here is what was to send from the start, and the units so far are what the rest
 -- lacks of all.
-use Prim.Native.Nat.{ℕ, _+_, _-_, _*_, min, _<_, _≤_}
+use Prim.Native.Nat.{ℕ, _+_, _-_, _*_, min, _≤_}
 use native.Mathlib.Omega.{arith}
 use mathlib.Core.List.{List}
 use mathlib.Core.Path.{_≡_, refl, _∙_}
