@@ -8,4 +8,3 @@ pub mod KeptUnitLaws
 pub mod KeptPortLaws
 pub mod RunLaws
 pub mod OnlyLaws
-pub mod BenchSheet
