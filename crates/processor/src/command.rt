@@ -266,16 +266,9 @@ pub fn command_taken(r: Registers, byte: u8) -> Registers
     let c = commands::command_of(byte);
     let n = begin(r, c, byte);
     match c {
-        Command::Nothing => n,
         Command::Reset => reset_done(n),
         Command::Vsync => master(n, byte % 2 == 1),
-        Command::Cchar => n,
         Command::Start => start(n),
-        Command::Zoom => n,
-        Command::Curs => n,
-        Command::Pram => n,
-        Command::Pitch => n,
-        Command::Mask => n,
         Command::Figs => refresh(n),
         Command::Figd => begin_figure(n),
         Command::Gchrd => begin_character(n),
@@ -283,6 +276,13 @@ pub fn command_taken(r: Registers, byte: u8) -> Registers
         Command::Lprd => pen_given(n),
         Command::Wdat(_) => operate(n, dots::operation_of(byte % 4)),
         Command::Rdat(t) => begin_read(n, t),
-        Command::Unknown => n,
+        Command::Nothing
+        | Command::Cchar
+        | Command::Zoom
+        | Command::Curs
+        | Command::Pram
+        | Command::Pitch
+        | Command::Mask
+        | Command::Unknown => n,
     }
 }
