@@ -18,12 +18,11 @@ use Rattle.units.specs.Run.{reasonOf, runFrom, lengthB, runDone}
 use Rattle.ports.specs.Port.{queuedOr3, commandWritten, parameterWritten, byteRead}
 use Rattle.entries.specs.Entries.{dirOf, slopeOf, lineEntries, entriesOf}
 use Rattle.sheets.specs.Slots.{translated, translation}
-use Rattle.sending.specs.Send.{sent, sentAll}
 use Rattle.cases.specs.BenchSheet.{bench, BenchHolds}
 
 pub bench-holds : BenchHolds
 unfolding bench oneBit combined bit ofBits freshSet dotsOf allBelow soundB pushed oldest popped familyOf commandOf operationOf figureBegun
     commandTaken cursBy ramBy pitchBy maskBy figsBy setDone wdatTaken nextOf parameterTaken entryTaken patternOf patternAt lineDirection
     errorAfter directionAt runningD figureMoved figureUnit fetched unitDone reasonOf runFrom lengthB runDone queuedOr3 commandWritten
-    parameterWritten byteRead dirOf slopeOf lineEntries entriesOf translated translation sent sentAll
+    parameterWritten byteRead dirOf slopeOf lineEntries entriesOf translated translation
 bench-holds = (refl, (refl, (refl, (refl, (refl, (refl, (refl, (refl, (refl, (refl, (refl, (refl, (refl, (refl, (refl, tt)))))))))))))))

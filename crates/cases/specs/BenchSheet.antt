@@ -1,6 +1,6 @@
 -- 01's bench sheet, K1 to K12 and its last line, as one statement over a list: what each case gives by the definitions, and what the
--- sheet says. From K8 on the host sends entries to the ports, one at a time with a run after each (`sentAll`); those of K8 to K10 are
--- what the translator makes of the two points.
+-- sheet says. From K8 on the host writes entries to the ports and lets the controller run; those of K8 to K10 are what the translator
+-- makes of the two points.
 use mathlib.Core.Path.{_≡_}
 use mathlib.Core.Bool.{false, cond}
 use mathlib.Core.List.{List, [], _∷_, _++_}
@@ -17,14 +17,24 @@ use Rattle.registers.specs.Fresh.{freshSet}
 use Rattle.registers.specs.Size.{rectangleKind}
 use Rattle.registers.specs.Put.{putCursor, putDrawing, putOp, putRam, putProgress}
 use Rattle.registers.specs.State.{State, state}
+use Rattle.units.specs.Run.{Outcome, runDone}
 use Rattle.ports.specs.Port.{byteRead}
 use Rattle.records.specs.declared.Figure.the-variants.{Line}
 use Rattle.sheets.specs.Slots.{translation}
-use Rattle.sending.specs.Send.{written, sentAll}
+use Rattle.sending.specs.Send.{written}
 
 -- ---- the bench
 
--- the host writes entries with no run between, and keeps the numbers of refusal
+-- the registers and the memory that a run leaves
+abbrev pub leftBy : Outcome → State
+leftBy o = state (o .ran .regs) (o .mem)
+
+-- the host writes entries, and after each lets the controller run (64 units are more than any entry here takes)
+abbrev pub played : State → List ℕ → State
+played s [] = s
+played s (e ∷ l) = played (leftBy (runDone 64 (state (written (s .regs) e .regs) (s .mem)))) l
+
+-- .. writes them with no run between, and keeps the numbers of refusal
 abbrev pub refusals : List ℕ → Registers → List ℕ
 refusals [] r = []
 refusals (e ∷ l) r = written r e .number ∷ refusals l (written r e .regs)
@@ -95,19 +105,19 @@ bench =
     -- "K7: pitch 40, EAD 100, mask 8000, up-right: 61, 0001."
     ∷ case (stepOf 3 40 (standing 100 0x8000)) (standing 61 0x0001)
     -- "K8: line (0,0)-(5,2): DIR 1, D -1, D2 -6, D1 4; rows 0 0 1 1 2 2."
-    ∷ case (slope (sentAll (over 0) (line 0 0 5 2) .regs)) (1 ∷ (16384 - 1) ∷ (16384 - 6) ∷ 4 ∷ [])
-    ∷ case (sentAll (over 0) (line 0 0 5 2) .mem) (dotted (0 ∷ 0 ∷ 1 ∷ 1 ∷ 2 ∷ 2 ∷ []))
+    ∷ case (slope (played (over 0) (line 0 0 5 2) .regs)) (1 ∷ (16384 - 1) ∷ (16384 - 6) ∷ 4 ∷ [])
+    ∷ case (played (over 0) (line 0 0 5 2) .mem) (dotted (0 ∷ 0 ∷ 1 ∷ 1 ∷ 2 ∷ 2 ∷ []))
     -- "K9: (0,0)-(2,1) passes (1,1); K10: (2,1)-(0,0) passes (1,0)."
-    ∷ case (sentAll (over 0) (line 0 0 2 1) .mem) (dotted (0 ∷ 1 ∷ 1 ∷ []))
-    ∷ case (sentAll (over 0) (line 2 1 0 0) .mem) (dotted (0 ∷ 0 ∷ 1 ∷ []))
+    ∷ case (played (over 0) (line 0 0 2 1) .mem) (dotted (0 ∷ 1 ∷ 1 ∷ []))
+    ∷ case (played (over 0) (line 2 1 0 0) .mem) (dotted (0 ∷ 0 ∷ 1 ∷ []))
     -- "K11: chip rectangle with D = D2 = 0 draws nothing.": FIGD leaves all but the command in progress
-    ∷ case (sentAll flat (0x16C ∷ [])) (state (putProgress (flat .regs) (record { command = command.Figd; next = 0; low = 0 })) (flat .mem))
+    ∷ case (played flat (0x16C ∷ [])) (state (putProgress (flat .regs) (record { command = command.Figd; next = 0; low = 0 })) (flat .mem))
     -- "K12: CURS 51 00 10, then CURD: 51 00 00 02 00."
-    ∷ case (bytesRead 5 (sentAll (over 0) (0x149 ∷ 0x51 ∷ 0x00 ∷ 0x10 ∷ 0x1E0 ∷ []) .regs)) (0x51 ∷ 0x00 ∷ 0x00 ∷ 0x02 ∷ 0x00 ∷ [])
+    ∷ case (bytesRead 5 (played (over 0) (0x149 ∷ 0x51 ∷ 0x00 ∷ 0x10 ∷ 0x1E0 ∷ []) .regs)) (0x51 ∷ 0x00 ∷ 0x00 ∷ 0x02 ∷ 0x00 ∷ [])
     -- "The seventeenth waiting byte gets 3."
     ∷ case (refusals (replicate 17 0) freshSet) (replicate 16 0 ++ 3 ∷ [])
     -- "WDAT 30 with AB, mask FFFF, word 1234: 00AB."
-    ∷ case (sentAll (over 0x1234) (0x14A ∷ 0xFF ∷ 0xFF ∷ 0x130 ∷ 0xAB ∷ []) .mem) (0x00AB ∷ replicate 15 0)
+    ∷ case (played (over 0x1234) (0x14A ∷ 0xFF ∷ 0xFF ∷ 0x130 ∷ 0xAB ∷ []) .mem) (0x00AB ∷ replicate 15 0)
     ∷ []
 
 -- each case gives what the sheet says
