@@ -32,7 +32,7 @@ module _ (r : Registers) (l : Lawful r) where
   unfolding queuedOr3
   queued-or-3 e h = either Answers (leb 16 (r .buffer .count)) l (queued-kept e h)
 
-turned-back : (r : Registers) → Lawful r → Lawful (turnedBack r)
+pub turned-back : (r : Registers) → Lawful r → Lawful (turnedBack r)
 turned-back r l = turn-kept r l Write emptyBuffer Idle (empty-queue Write) (idle (r .drawing) (r .video .zoom) Write refl)
 
 module _ (r : Registers) (l : Lawful r) where
