@@ -10,6 +10,7 @@ use Rattle.dots.specs.Cycle.{cycled}
 use Rattle.registers.specs.declared.Drawing.{Drawing}
 use Rattle.registers.specs.declared.Registers.{Registers}
 use Rattle.registers.specs.declared.Work.the-variants.{Idle, Figure}
+use Rattle.registers.specs.Width.{fourteenBits, sign}
 use Rattle.registers.specs.Size.{lineKind, rectangleKind, dotsOf}
 use Rattle.registers.specs.Put.{putCursor, putWork}
 use Rattle.registers.specs.State.{State, state}
@@ -23,7 +24,7 @@ patternAt ram k = patternOf (getD ram 8 0) (getD ram 9 0) k
 
 -- "D is two's complement": of 14 bits the highest is the sign
 abbrev pub negative : ℕ → Bool
-negative d = leb 8192 d
+negative d = leb sign d
 
 -- "For even DIR the axis is DIR and the diagonal DIR + 1; for odd, the axis is DIR + 1 mod 8 and the diagonal DIR."
 abbrev pub axisOf : ℕ → ℕ
@@ -37,7 +38,7 @@ unfoldable pub lineDirection : ℕ → ℕ → ℕ
 lineDirection dir d = cond (negative d) (axisOf dir) (diagonalOf dir)
 
 unfoldable pub errorAfter : Drawing → ℕ → ℕ
-errorAfter f d = cond (negative d) ((d + f .d1) % 16384) ((d + f .d2) % 16384)
+errorAfter f d = cond (negative d) ((d + f .d1) % fourteenBits) ((d + f .d2) % fourteenBits)
 
 -- "four sides along DIR, DIR + 2, + 4, + 6 (mod 8), of D, D2, D, D2 dots": the side of dot k
 unfoldable pub sideOf : ℕ → ℕ → ℕ → ℕ

@@ -17,6 +17,11 @@ ghost use Rattle.figures.specs.Figure.{
   figureUnit,
 };
 
+// D is two's complement of 14 bits.
+const SIGN: u16 = 8192;
+
+const FOURTEEN_BITS: u32 = 16384;
+
 // Dot k's pattern bit, for all masked bits.
 fn pattern_of(low: u8, high: u8, k: u32) -> u16
     ensures { λ p. ⌜ p ≡ patternOf low high k ⌝ }
@@ -48,7 +53,7 @@ fn diagonal_of(dir: u8) -> u8
 fn line_direction(dir: u8, d: u16) -> u8
     ensures { λ n. ⌜ n ≡ lineDirection dir d ⌝ }
 {
-    if 8192 <= d {
+    if SIGN <= d {
         return axis_of(dir);
     }
     diagonal_of(dir)
@@ -58,10 +63,10 @@ fn line_direction(dir: u8, d: u16) -> u8
 fn error_after(f: Drawing, d: u16) -> u16
     ensures { λ n. ⌜ n ≡ errorAfter f d ⌝ }
 {
-    if 8192 <= d {
-        return ((d as u32 + f.d1 as u32) % 16384) as u16;
+    if SIGN <= d {
+        return ((d as u32 + f.d1 as u32) % FOURTEEN_BITS) as u16;
     }
-    ((d as u32 + f.d2 as u32) % 16384) as u16
+    ((d as u32 + f.d2 as u32) % FOURTEEN_BITS) as u16
 }
 
 // The side of a rectangle that dot k is on.
@@ -87,10 +92,10 @@ fn side_of(d: u16, d2: u16, k: u32) -> u16
 fn direction_at(f: Drawing, k: u32, d: u16) -> u8
     ensures { λ n. ⌜ n ≡ directionAt f k d ⌝ }
 {
-    if f.kind == 1 {
+    if f.kind == registers::LINE_KIND {
         return line_direction(f.dir, d);
     }
-    if f.kind == 8 {
+    if f.kind == registers::RECTANGLE_KIND {
         return ((f.dir as u32 + side_of(f.d, f.d2, k) as u32) % 8) as u8;
     }
     f.dir
@@ -100,7 +105,7 @@ fn direction_at(f: Drawing, k: u32, d: u16) -> u8
 fn running_d(f: Drawing, d: u16) -> u16
     ensures { λ n. ⌜ n ≡ runningD f d ⌝ }
 {
-    if f.kind == 1 {
+    if f.kind == registers::LINE_KIND {
         return error_after(f, d);
     }
     d

@@ -24,7 +24,7 @@ use Rattle.registers.specs.Put.{putCursor, putPitch, putDrawing, putOp, putRam,
 use Rattle.registers.specs.Put.{putWork}
 use Rattle.registers.specs.State.{State, state}
 use Rattle.registers.specs.Typed.{StartFits, Typed, Words}
-use Rattle.laws.proofs.SoundLaws.{DrawingFits, BufferFits, Inside, Suits, sound-parts, sound-whole}
+use Rattle.laws.proofs.SoundLaws.{Sound, DrawingFits, BufferFits, Inside, Suits, sound-parts, sound-whole}
 
 pub record Queue (m : Mode) (b : Buffer) : Type 0 where
   pub fits : BufferFits m b
@@ -53,36 +53,22 @@ pub record Whole (n : ℕ) (s : State) : Type 0 where
 pub idle : (f : Drawing) (zoom : ℕ) (m : Mode) {w : Work} → w ≡ Idle → Going f zoom m w
 idle f zoom m e = record { place = rw e tt; mode = rw e tt; start = rw e tt }
 
--- ---- from soundness and types, and back
+-- ---- from soundness and types, and back: each part is one of theirs, so it is found
+
+lawful-of : (r : Registers) → Sound r → Typed r → Lawful r
+lawful-of r s t = search
+
+sound-of : (r : Registers) → Lawful r → Sound r
+sound-of r l = search
 
 pub lawful : (r : Registers) → soundB r ≡ true → Typed r → Lawful r
-lawful r e t =
-    let s = sound-parts r e in
-    record {
-      cursor = record { ead = s .cursor; mask = t .mask };
-      drawing = s .drawing;
-      ram = t .ram;
-      pen = s .pen;
-      buffer = record { fits = s .buffer; long = t .entries };
-      progress = s .progress;
-      work = record { place = s .place; mode = s .work; start = t .start };
-    }
+lawful r e t = lawful-of r (sound-parts r e) t
 
 pub lawful-sound : (r : Registers) → Lawful r → soundB r ≡ true
-lawful-sound r l =
-    sound-whole r
-    (record {
-      cursor = l .cursor .ead;
-      drawing = l .drawing;
-      pen = l .pen;
-      progress = l .progress;
-      buffer = l .buffer .fits;
-      place = l .work .place;
-      work = l .work .mode;
-    })
+lawful-sound r l = sound-whole r (sound-of r l)
 
 pub lawful-typed : (r : Registers) → Lawful r → Typed r
-lawful-typed r l = record { mask = l .cursor .mask; ram = l .ram; entries = l .buffer .long; start = l .work .start }
+lawful-typed r l = search
 
 -- ---- one register changed: its part is given, and the others stay as they are, so each is found
 

@@ -8,6 +8,7 @@ use Rattle.registers.specs.declared.Work.{Work}
 use Rattle.registers.specs.declared.Work.the-variants.{Idle, Figure, Character, Reading}
 use Rattle.registers.specs.declared.Buffer.{Buffer}
 use Rattle.registers.specs.declared.Registers.{Registers}
+use Rattle.registers.specs.Width.{places, commandMark}
 use Rattle.registers.specs.Fresh.{emptyBuffer}
 use Rattle.registers.specs.Sound.{soundB}
 use Rattle.registers.specs.Buffer.{pushed, oldest, popped}
@@ -33,11 +34,11 @@ turnedBack r = putWork (putBuffer (putMode r Write) emptyBuffer) Idle
 
 -- "3: write mode and buffer holds 16, RESET excepted"
 unfoldable pub queuedOr3 : Registers → ℕ → Answer
-queuedOr3 r e = cond (leb 16 (r .buffer .count)) (refused 3 r) (granted 0 (queued r e))
+queuedOr3 r e = cond (leb places (r .buffer .count)) (refused 3 r) (granted 0 (queued r e))
 
 abbrev pub commandIn : Mode → Registers → ℕ → Answer
-commandIn Write r b = queuedOr3 r (b + 256)
-commandIn Read r b = granted 0 (queued (turnedBack r) (b + 256))
+commandIn Write r b = queuedOr3 r (b + commandMark)
+commandIn Read r b = granted 0 (queued (turnedBack r) (b + commandMark))
 
 -- a byte to the command port: "1: register set unsound"; "RESET acts at the write itself, even when the buffer is full"
 unfoldable pub commandWritten : Registers → ℕ → Answer
@@ -80,7 +81,7 @@ readModeB Read = true
 unfoldable pub statusOf : Registers → ℕ
 statusOf r =
     128 * oneIf (r .pen .set) + 8 * oneIf (figureInProgressB (r .work)) + 4 * oneIf (eqb (r .buffer .count) 0)
-    + 2 * oneIf (eqb (r .buffer .count) 16) + oneIf (readModeB (r .mode) && ltb 0 (r .buffer .count))
+    + 2 * oneIf (eqb (r .buffer .count) places) + oneIf (readModeB (r .mode) && ltb 0 (r .buffer .count))
 
 unfoldable pub statusRead : Registers → Answer
 statusRead r = cond (soundB r) (granted (statusOf r) r) (refused 1 r)

@@ -81,7 +81,7 @@ fn turn_back(r: Registers) -> Registers
 fn queue_or_3(r: Registers, e: u16) -> Answer
     ensures { λ a. ⌜ a ≡ queuedOr3 r e ⌝ }
 {
-    if 16 <= r.buffer.count {
+    if registers::PLACES <= r.buffer.count {
         return refuse(3, r);
     }
     grant(0, queue(r, e))
@@ -92,8 +92,11 @@ fn command_in(r: Registers, byte: u8) -> Answer
 {
     let mode = r.mode;
     match mode {
-        Mode::Write => queue_or_3(r, byte as u16 + 256),
-        Mode::Read => grant(0, queue(turn_back(r), byte as u16 + 256)),
+        Mode::Write => queue_or_3(r, byte as u16 + registers::COMMAND_MARK),
+        Mode::Read => grant(
+            0,
+            queue(turn_back(r), byte as u16 + registers::COMMAND_MARK),
+        ),
     }
 }
 
@@ -213,7 +216,7 @@ fn status_of(r: Registers) -> u8
     let pen = one_if(r.pen.set) as u16;
     let drawing = one_if(figure_in_progress(work)) as u16;
     let empty = one_if(r.buffer.count == 0) as u16;
-    let full = one_if(r.buffer.count == 16) as u16;
+    let full = one_if(r.buffer.count == registers::PLACES) as u16;
     let ready = one_if(is_read(mode) & (0 < r.buffer.count)) as u16;
     (128 * pen + 8 * drawing + 4 * empty + 2 * full + ready) as u8
 }

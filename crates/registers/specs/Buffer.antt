@@ -5,11 +5,12 @@ use mathlib.Core.List.{List, [], _∷_, _++_}
 use lib.Dec.{ltb, leb}
 use lib.ListN.{getD, set, drop}
 use Rattle.registers.specs.declared.Buffer.{Buffer}
+use Rattle.registers.specs.Width.{places}
 use Rattle.registers.specs.Fresh.{emptyBuffer}
 
 -- an entry more, behind the others; a buffer of sixteen takes none
 unfoldable pub pushed : Buffer → ℕ → Buffer
-pushed b e = cond (ltb (b .count) 16) (record { entries = set (b .entries) (b .count) e; count = b .count + 1 }) b
+pushed b e = cond (ltb (b .count) places) (record { entries = set (b .entries) (b .count) e; count = b .count + 1 }) b
 
 -- the oldest entry
 unfoldable pub oldest : Buffer → ℕ

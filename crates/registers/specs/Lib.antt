@@ -1,3 +1,4 @@
+pub mod Width
 pub mod Put
 pub mod Fresh
 pub mod Size

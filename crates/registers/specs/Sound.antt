@@ -15,6 +15,7 @@ use Rattle.registers.specs.declared.Pen.{Pen}
 use Rattle.registers.specs.declared.Buffer.{Buffer}
 use Rattle.registers.specs.declared.Progress.{Progress}
 use Rattle.registers.specs.declared.Registers.{Registers}
+use Rattle.registers.specs.Width.{kinds, directions, fourteenBits, places, commandMark, entryEnd, parameters}
 use Rattle.registers.specs.Size.{dotsOf, rowsOf, columnsOf}
 
 -- every number of the list is below n
@@ -29,30 +30,31 @@ cursorB c = ltb (c .ead) 262144
 -- five type bits, three of DIR; "DC, D, D2, D1, DM 14 bits"
 abbrev pub drawingB : Drawing → Bool
 drawingB f =
-    ltb (f .kind) 32 && ltb (f .dir) 8 && ltb (f .dc) 16384 && ltb (f .d) 16384 && ltb (f .d2) 16384 && ltb (f .d1) 16384
-    && ltb (f .dm) 16384
+    ltb (f .kind) kinds && ltb (f .dir) directions && ltb (f .dc) fourteenBits && ltb (f .d) fourteenBits
+    && ltb (f .d2) fourteenBits && ltb (f .d1) fourteenBits && ltb (f .dm) fourteenBits
 
 -- "an 18-bit light-pen address"
 abbrev pub penB : Pen → Bool
 penB p = ltb (p .address) 262144
 
--- at most sixteen parameters are told apart
+-- where the next parameter goes
 abbrev pub progressB : Progress → Bool
-progressB p = leb (p .next) 16
+progressB p = leb (p .next) parameters
 
 -- a held entry is a byte in read mode, and may have a command mark in write mode
 abbrev pub markB : Mode → ℕ
-markB Write = 512
-markB Read = 256
+markB Write = entryEnd
+markB Read = commandMark
 
 -- "at most 16 buffered entries", each within its width
 abbrev pub bufferB : Mode → Buffer → Bool
-bufferB m b = leb (b .count) 16 && allBelow 512 (take 16 (b .entries)) && allBelow (markB m) (take (b .count) (b .entries))
+bufferB m b =
+    leb (b .count) places && allBelow entryEnd (take places (b .entries)) && allBelow (markB m) (take (b .count) (b .entries))
 
 -- "the place reached inside its figure or read"; the running D and the row's start within their widths
 abbrev pub placeB : Drawing → ℕ → Work → Bool
 placeB f zoom Idle = true
-placeB f zoom (Figure k d) = ltb k (dotsOf f) && ltb d 16384
+placeB f zoom (Figure k d) = ltb k (dotsOf f) && ltb d fourteenBits
 placeB f zoom (Character row column start) = ltb row (rowsOf f zoom) && ltb column (columnsOf f zoom) && cursorB start
 placeB f zoom (Reading item t) = ltb item (f .dc)
 

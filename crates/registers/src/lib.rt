@@ -18,6 +18,32 @@ ghost use Rattle.registers.specs.Sound.{
   soundB,
 };
 
+// The five type bits SL, R, A, GC, L as a number: how many there are, and those of the figures.
+const KINDS: u8 = 32;
+
+const PLAIN_KIND: u8 = 0;
+
+pub const LINE_KIND: u8 = 1;
+
+const CHARACTER_KIND: u8 = 2;
+
+pub const RECTANGLE_KIND: u8 = 8;
+
+// The directions, and DC to DM of 14 bits.
+const DIRECTIONS: u8 = 8;
+
+const FOURTEEN_BITS: u16 = 16384;
+
+// The buffer's places. An entry is a byte, with a mark added for a command; one more than the greatest.
+pub const PLACES: u8 = 16;
+
+pub const COMMAND_MARK: u16 = 256;
+
+const ENTRY_END: u16 = 512;
+
+// At most so many parameters of a command are told apart.
+const PARAMETERS: u8 = 16;
+
 // Which way the buffer carries bytes.
 pub enum Mode {
     Write,
@@ -101,7 +127,7 @@ pub struct Pen {
     pub set: bool,
 }
 
-// The first `count` entries are held, the oldest first. An entry is a byte, with 256 more for a command mark.
+// The first `count` entries are held, the oldest first.
 pub struct Buffer {
     pub entries: [u16; 16],
     pub count: u8,
@@ -176,10 +202,10 @@ pub fn fresh() -> Registers
 pub fn dots_of(f: Drawing) -> u32
     ensures { λ n. ⌜ n ≡ dotsOf f ⌝ }
 {
-    if (f.kind == 0) | (f.kind == 1) {
+    if (f.kind == PLAIN_KIND) | (f.kind == LINE_KIND) {
         return f.dc as u32 + 1;
     }
-    if f.kind == 8 {
+    if f.kind == RECTANGLE_KIND {
         return f.d as u32 + f.d2 as u32 + f.d as u32 + f.d2 as u32;
     }
     0
@@ -196,7 +222,7 @@ pub fn factor_of(zoom: u8) -> u32
 pub fn rows_of(f: Drawing, zoom: u8) -> u32
     ensures { λ n. ⌜ n ≡ rowsOf f zoom ⌝ }
 {
-    if f.kind == 2 {
+    if f.kind == CHARACTER_KIND {
         return (f.dc as u32 + 1) * factor_of(zoom);
     }
     0
@@ -218,13 +244,13 @@ fn cursor_fits(c: Cursor) -> bool
 fn drawing_fits(f: Drawing) -> bool
     ensures { λ t. ⌜ t ≡ drawingB f ⌝ }
 {
-    (f.kind < 32)
-        & (f.dir < 8)
-        & (f.dc < 16384)
-        & (f.d < 16384)
-        & (f.d2 < 16384)
-        & (f.d1 < 16384)
-        & (f.dm < 16384)
+    (f.kind < KINDS)
+        & (f.dir < DIRECTIONS)
+        & (f.dc < FOURTEEN_BITS)
+        & (f.d < FOURTEEN_BITS)
+        & (f.d2 < FOURTEEN_BITS)
+        & (f.d1 < FOURTEEN_BITS)
+        & (f.dm < FOURTEEN_BITS)
 }
 
 // The first n of the entries are below a bound.
@@ -247,8 +273,8 @@ fn mark_of(m: Mode) -> u16
     ensures { λ n. ⌜ n ≡ markB m ⌝ }
 {
     match m {
-        Mode::Write => 512,
-        Mode::Read => 256,
+        Mode::Write => ENTRY_END,
+        Mode::Read => COMMAND_MARK,
     }
 }
 
@@ -256,9 +282,9 @@ fn buffer_fits(m: Mode, b: Buffer) -> bool
     ensures { λ t. ⌜ t ≡ bufferB m b ⌝ }
 {
     let entries = b.entries;
-    let whole = entries_fit(entries, 512, 16);
+    let whole = entries_fit(entries, ENTRY_END, PLACES);
     let held = entries_fit(entries, mark_of(m), b.count);
-    (b.count <= 16) & whole & held
+    (b.count <= PLACES) & whole & held
 }
 
 fn place_fits(f: Drawing, zoom: u8, w: Work) -> bool
@@ -266,7 +292,7 @@ fn place_fits(f: Drawing, zoom: u8, w: Work) -> bool
 {
     match w {
         Work::Idle => true,
-        Work::Figure { dot, d } => (dot < dots_of(f)) & (d < 16384),
+        Work::Figure { dot, d } => (dot < dots_of(f)) & (d < FOURTEEN_BITS),
         Work::Character { row, column, start } => {
             (row < rows_of(f, zoom)) & (column < columns_of(f, zoom)) & cursor_fits(start)
         }
@@ -369,5 +395,11 @@ pub fn sound(r: Registers) -> bool
     let held = buffer_fits(mode, buffer);
     let place = place_fits(r.drawing, r.video.zoom, work);
     let kept = work_fits(mode, work);
-    cursor & drawing & (r.pen.address < 262144) & (r.progress.next <= 16) & held & place & kept
+    cursor
+        & drawing
+        & (r.pen.address < 262144)
+        & (r.progress.next <= PARAMETERS)
+        & held
+        & place
+        & kept
 }
