@@ -99,7 +99,8 @@ fn write_out(out: &mut [u16], s: &[u8], n: u8, m: Room, t: &[u8], p: u8)
     }
 }
 
-fn plane_fits(p: u32, h: u32) -> bool
+// P and H are in range.
+pub fn plane_fits(p: u32, h: u32) -> bool
     ensures { λ r. ⌜ r ≡ planeB p h ⌝ }
 {
     let area = p as u64 * h as u64;

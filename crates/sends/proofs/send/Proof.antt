@@ -1,8 +1,8 @@
 -- `send` is the run of `sent`, from the registers that the port leaves.
-use Rattle.drawing.proofs.SendLaws.{by-run}
+use Rattle.sends.proofs.SendLaws.{by-run}
 use borrow.Author.Needs.{needs}
-use Rattle.drawing.proofs.send.Statement.{statement}
-use Rattle.drawing.proofs.send.Tie as tie
+use Rattle.sends.proofs.send.Statement.{statement}
+use Rattle.sends.proofs.send.Tie as tie
 
 to-port-requires : tie.Need-to-port-requires
 to-port-requires c κs = search needs

@@ -3,47 +3,48 @@
 -- the first entry of a list first.
 use mathlib.Core.Path.{_≡_, sym, ap, _∙_}
 use mathlib.Core.List.{List, [], _∷_}
-use Prim.Native.Nat.{ℕ, suc, _+_, _-_, _%_, _≤_, _<_}
+use Prim.Native.Nat.{ℕ, suc, _+_, _%_, min, _≤_, _<_}
 use native.Mathlib.Omega.{arith}
-use lib.ListN.{length, getD, take, drop, drop-of-length-le}
-use lib.Seq.{drop-cons, length-take-le, getD-take}
+use lib.ListN.{length, getD, take, drop, length-take, drop-of-length-le}
+use lib.Seq.{drop-cons, getD-take}
 use borrow.Author.Tests.{lt-ltb, le-ltb}
 use Rattle.registers.specs.declared.Registers.{Registers}
 use Rattle.registers.specs.State.{State, state}
 use Rattle.ports.specs.declared.Answer.{Answer}
 use Rattle.ports.specs.Port.{commandWritten, parameterWritten}
 use Rattle.units.specs.declared.Ran.{Ran}
-use Rattle.units.specs.Run.{Outcome, outcome, runDone}
+use Rattle.units.specs.Run.{Outcome, runDone}
+use Rattle.units.specs.Run.{outcome as ranOutcome}
 use Rattle.sending.specs.Send.{written, sent, left, sentAll, unitsOf}
-use Rattle.drawing.specs.Draw.{sending, sendingDone}
+use Rattle.sends.specs.Sends.{outcome, listSent}
 
 -- ---- one entry
 module _ (r : Registers) (e : ℕ) where
   pub by-parameter : {a : Answer} → e < 256 → a ≡ parameterWritten r (e % 256) → a .regs ≡ written r e .regs
   by-parameter h q = let f : e % 256 ≡ e = omega arith in rw (q, f, lt-ltb e 256 h)
 
-  pub by-command : {a : Answer} → 256 ≤ e → e < 512 → a ≡ commandWritten r (e % 256) → a .regs ≡ written r e .regs
-  by-command h k q = let f : e % 256 ≡ e - 256 = omega arith in rw (q, f, le-ltb e 256 h)
+  pub by-command : {a : Answer} → 256 ≤ e → a ≡ commandWritten r (e % 256) → a .regs ≡ written r e .regs
+  by-command h q = rw (q, le-ltb e 256 h)
 
   pub by-run : (m : List ℕ) {p : Registers} {o : Outcome} → p ≡ written r e .regs → o ≡ runDone 4294967295 (state p m)
       → o ≡ sent (state r m) e .run
   unfolding sent
   by-run m q k = rw q at k
 
--- ---- the loop over the first n of the entries
-module _ (entries : List ℕ) (n : ℕ) where
+-- ---- the loop over the first n of the entries, or all where they are fewer
+module _ (entries : List ℕ) (n last : ℕ) (many : last ≡ min n (length entries)) where
   abbrev all : List ℕ
   all = take n entries
 
-  pub all-length : n ≤ length entries → length all ≡ n
-  all-length h = length-take-le n entries h
+  how-many : length all ≡ last
+  how-many = length-take n entries ∙ sym many
 
-  module _ (k : ℕ) (s : State) (fits : n ≤ length entries) (more : k < n) {q : Ran} {m : List ℕ}
-      (ran : outcome q m ≡ sent s (getD entries k 0) .run) where
+  module _ (k : ℕ) (s : State) (more : k < last) {q : Ran} {m : List ℕ}
+      (ran : ranOutcome q m ≡ sent s (getD entries k 0) .run) where
     first : drop k all ≡ getD entries k 0 ∷ drop (k + 1) all
     first =
         let e : suc k ≡ k + 1 = omega arith in
-        drop-cons all k 0 (omega (arith, all-length fits)) ∙ rw (getD-take n entries k 0 more, e)
+        drop-cons all k 0 (omega (arith, how-many)) ∙ rw (getD-take n entries k 0 (omega arith), e)
 
     after : left (sent s (getD entries k 0)) ≡ state (q .regs) m
     after = ap (λ (o : Outcome). state (o .ran .regs) (o .mem)) (sym ran)
@@ -60,15 +61,13 @@ module _ (entries : List ℕ) (n : ℕ) where
         ap (λ (x : State). unitsOf x (drop (k + 1) all)) after in
         rw first (rw (c, d) (omega arith))
 
-  pub nothing-left : (k : ℕ) → n ≤ length entries → n ≤ k → drop k all ≡ []
-  nothing-left k fits h = let e : length all ≤ k = omega (arith, all-length fits) in drop-of-length-le all e
-
   -- all are sent: what the loop holds is the definition
-  pub all-sent : (s₀ s : State) (u k : ℕ) → n ≤ length entries → n ≤ k → sentAll s₀ all ≡ sentAll s (drop k all)
-      → unitsOf s₀ all ≡ u + unitsOf s (drop k all) → sending (record { regs = s .regs; units = u }) (s .mem) ≡ sendingDone s₀ all
-  unfolding sendingDone sentAll unitsOf
-  all-sent s₀ s u k fits h e f =
-      let z = nothing-left k fits h in
+  pub all-sent : (s₀ s : State) (u k : ℕ) → last ≤ k → sentAll s₀ all ≡ sentAll s (drop k all)
+      → unitsOf s₀ all ≡ u + unitsOf s (drop k all) → outcome (record { regs = s .regs; units = u }) (s .mem) ≡ listSent s₀ all
+  unfolding listSent sentAll unitsOf
+  all-sent s₀ s u k h e f =
+      let few : length all ≤ k = omega (arith, how-many) in
+      let z : drop k all ≡ [] = drop-of-length-le all few in
       let g : sentAll s₀ all ≡ s = e ∙ ap (sentAll s) z in
       let w : unitsOf s₀ all ≡ u = f ∙ ap (λ (l : List ℕ). u + unitsOf s l) z ∙ omega arith in
       rw (g, w)

@@ -1,8 +1,8 @@
 -- `to_port` writes an entry to its port: the two ports of `written`, with the byte of the entry.
-use Rattle.drawing.proofs.SendLaws.{by-parameter, by-command}
+use Rattle.sends.proofs.SendLaws.{by-parameter, by-command}
 use borrow.Author.Needs.{needs}
-use Rattle.drawing.proofs.to_port.Statement.{statement}
-use Rattle.drawing.proofs.to_port.Tie as tie
+use Rattle.sends.proofs.to_port.Statement.{statement}
+use Rattle.sends.proofs.to_port.Tie as tie
 
 cast-byte : tie.Need-cast-byte
 cast-byte c = search needs
@@ -17,7 +17,7 @@ write-command-requires : tie.Need-write-command-requires
 write-command-requires c κs = search needs
 
 returns-2 : tie.Need-returns-2
-returns-2 c = by-command _ _ (c .before .before .if1 .left) (c .before .before .before .pre) (c .before .write-command .ensures)
+returns-2 c = by-command _ _ (c .before .before .if1 .left) (c .before .write-command .ensures)
 
 pub to-port-spec : {M : Type 1} → statement M
 to-port-spec =
