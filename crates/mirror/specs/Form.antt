@@ -34,4 +34,4 @@ bitsB p = ltb (p .drawing .gd) 2 && ltb (p .video .display) 2 && ltb (p .video .
 unfoldable pub plainFormB : PlainRegisters → Bool
 plainFormB p =
     bitsB p && ltb (p .op) operations && ltb (p .mode) modes && commandFormB (p .progress .command) (p .progress .transfer) && workFormB
-        (p .work)
+    (p .work)
