@@ -1,6 +1,6 @@
 // The blocks of a drawing sheet: their checks, headings, spare bytes and unused records.
 ghost use mathlib.Core.Path.{_≡_};
-ghost use Rattle.blocks.specs.Answer.{orElse};
+ghost use Rattle.blocks.specs.Answer.{refusalUnless, orElse};
 ghost use Rattle.blocks.specs.Block.{checkOf, zerosB, headB, blockRefusal, blocksChecked};
 
 // An answer: the number of the refusal or 0, and the two values with it.
@@ -8,6 +8,17 @@ pub struct Answer {
     pub number: u8,
     pub first: u32,
     pub second: u32,
+}
+
+// A refusal with 0, 0 where a test fails.
+pub fn refusal_unless(ok: bool, number: u8) -> Answer
+    ensures { λ r. ⌜ r ≡ refusalUnless ok number ⌝ }
+{
+    Answer {
+        number: if ok { 0 } else { number },
+        first: 0,
+        second: 0,
+    }
 }
 
 // The first answer if it is a refusal, else the second.
