@@ -31,8 +31,8 @@ SMALL_FIGURE = 700          # a figure of at most so many dots may be finished
 class Basics:
     """Lines, chances and the registers that an episode sets first."""
 
-    def __init__(self):
-        self.random = None           # the chances of the episode at hand
+    def __init__(self, chances=None):
+        self.random = chances        # those of the episode at hand
         self.lines = []
         self.length = 16             # of the memory, as the last M left it
         self.words, self.height = 0x28, 0x190

@@ -19,12 +19,13 @@ use Rattle.geometry.proofs.CycleLaws.{cycles, Drawn}
 use Rattle.geometry.proofs.FigureLaws.{spread}
 use Rattle.geometry.proofs.GlyphLaws.{spot, glyph-drawn}
 use Rattle.records.specs.declared.Point.{Point}
-use Rattle.entries.specs.Entries.{opNumber, eadOf, cursorEntries, foot, rowsOf, both, glyphEntries}
+use Rattle.dots.specs.Operation.{operationNumber}
+use Rattle.entries.specs.Entries.{eadOf, cursorEntries, foot, rowsOf, both, glyphEntries}
 use Rattle.registers.specs.declared.Command.the-variants.{Figs}
 use Rattle.registers.specs.declared.Drawing.{Drawing}
 use Rattle.registers.specs.declared.Registers.{Registers}
 use Rattle.registers.specs.Fresh.{emptyBuffer}
-use Rattle.registers.specs.Put.{putZoom}
+use Rattle.registers.specs.Put.{putCursor, putDrawing, putOp, putRam, putVideo, putBuffer, putProgress, putZoom}
 use Rattle.registers.specs.Size as size
 use Rattle.registers.specs.Size.{factorOf, columnsOf}
 use Rattle.registers.specs.State.{State}
@@ -76,24 +77,14 @@ module _ (p h : ℕ) (sized : Sized p h) (s : State) (held : Held p h s) (op : O
 
   abbrev before : List ℕ
   before =
-      (0x120 + opNumber op) ∷ 0x146 ∷ (g - 1) ∷ cursorEntries (eadOf p (foot a g)) (a .x) ++ 0x178 ∷ rowsOf t n ++ 0x14C ∷ 0x12 ∷ both 7
+      (0x120 + operationNumber op) ∷ 0x146 ∷ (g - 1) ∷ cursorEntries (eadOf p (foot a g))
+      (a .x) ++ 0x178 ∷ rowsOf t n ++ 0x14C ∷ 0x12 ∷ both 7
 
   -- the registers before GCHRD
   abbrev q : Registers
   q =
-      record {
-        cursor = first;
-        pitch = s .regs .pitch;
-        drawing = f;
-        op = op;
-        ram = ram;
-        video = putZoom (s .regs .video) (g - 1);
-        pen = s .regs .pen;
-        mode = s .regs .mode;
-        buffer = emptyBuffer;
-        progress = progress Figs 3;
-        work = s .regs .work;
-      }
+      putProgress (putBuffer (putVideo (putDrawing (putCursor (putOp (putRam (s .regs) ram) op) first) f)
+      (putZoom (s .regs .video) (g - 1))) emptyBuffer) (progress Figs 3)
 
   acts : Acts (s .regs) before q
   acts =

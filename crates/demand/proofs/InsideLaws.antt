@@ -7,6 +7,7 @@ use Prim.Native.Nat.{ℕ, zero, suc, _+_, _*_, _≤_, _<_}
 use native.Mathlib.Omega.{arith}
 use lib.Dec.{eqb, ltb, leb}
 use borrow.Author.Tests.{ltb-true, leb-true, eqb-false}
+use Rattle.dots.specs.Operation.{operationOf}
 use Rattle.geometry.specs.Plane.{InPlane}
 use Rattle.geometry.proofs.TestLaws.{cases, and-both}
 use Rattle.records.specs.declared.Raw.{Raw}
@@ -19,7 +20,7 @@ use Rattle.records.specs.declared.Decoded.{Decoded}
 use Rattle.records.specs.declared.Decoded.the-variants.{Good, Refused}
 use Rattle.records.specs.Raw.{rawAt}
 use Rattle.records.specs.declared.Refusal.the-variants.{Form, GlyphNumber, Factor}
-use Rattle.records.specs.Decode.{point, operationOf, recordFormB, knownB, factorB, figureOf, decodedOf, decodedAt}
+use Rattle.records.specs.Decode.{point, recordFormB, knownB, factorB, figureOf, decodedOf, decodedAt}
 use Rattle.records.specs.Inside.{pointB, insideB, judged}
 use Rattle.records.proofs.FormLaws.{Formed, form-means, factor-means, else-glyph}
 use Rattle.sheets.specs.Slots.{placeOf, usedB, slotDecoded, figuresIn, slotFigures, figuresFrom, figures}

@@ -14,8 +14,10 @@ use Rattle.blocks.specs.declared.Answer.{Answer}
 use Rattle.sheets.specs.Sheet.{answerOf, translateDef}
 use Rattle.sheets.specs.Sheet.{Outcome as Translated, outcome as translated}
 use Rattle.drawing.specs.declared.Drawn.{Drawn}
-use Rattle.drawing.specs.declared.Sending.{Sending}
-use Rattle.drawing.specs.Draw.{sending, sendingDone, Outcome, outcome, refusal, allSent, drawnBy, sheetDrawn}
+use Rattle.sends.specs.declared.Sent.{Sent}
+use Rattle.sends.specs.Sends.{listSent}
+use Rattle.sends.specs.Sends.{outcome as sending}
+use Rattle.drawing.specs.Draw.{Outcome, outcome, refusal, allSent, drawnBy, sheetDrawn}
 
 module _ (sheet : List ℕ) (p h : ℕ) (glyphs : List ℕ) (r : Registers) (entries mem : List ℕ) where
   abbrev all : Outcome
@@ -46,7 +48,7 @@ module _ (sheet : List ℕ) (p h : ℕ) (glyphs : List ℕ) (r : Registers) (ent
       pub way-refused : {q : Drawn} → (a .number ≡ 0 → ⊥) → q ≡ refusal (a .number) (a .first) (a .second) r → outcome q out mem ≡ all
       way-refused z e = rw (past, e, unaltered z, ne-eqb (a .number) 0 z)
 
-      pub way-sent : {q : Sending} {m : List ℕ} → a .number ≡ 0 → sending q m ≡ sendingDone (state r mem) (take (a .first) out)
+      pub way-sent : {q : Sent} {m : List ℕ} → a .number ≡ 0 → sending q m ≡ listSent (state r mem) (take (a .first) out)
           → outcome (record { number = 0; first = a .first; second = a .second; units = q .units; regs = q .regs }) out m ≡ all
       way-sent z e = ap (allSent a out) e ∙ rw (past, eq-eqb (a .number) 0 z)
 

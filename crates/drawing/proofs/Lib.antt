@@ -1,4 +1,2 @@
-pub mod SendLaws
-pub mod SmallLaws
 pub mod DrawLaws
 pub mod Right

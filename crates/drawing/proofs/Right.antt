@@ -21,7 +21,8 @@ use Rattle.sheets.proofs.SlotLaws.{translation-length}
 use Rattle.sheets.proofs.SheetLaws.{translated-means}
 use Rattle.sending.specs.Send.{Ready, AllAccepted}
 use Rattle.demand.proofs.Whole.{whole}
-use Rattle.drawing.specs.Draw.{Outcome, sendingDone, allSent, sheetDrawn}
+use Rattle.sends.specs.Sends.{listSent}
+use Rattle.drawing.specs.Draw.{Outcome, allSent, sheetDrawn}
 use Rattle.drawing.specs.Right.{SheetIsDrawn}
 
 -- what the definition is where nothing is refused
@@ -36,7 +37,7 @@ module _ (sheet : List ℕ) (p h : ℕ) (glyphs : List ℕ) (r : Registers) (ent
   figuresEntries = translation glyphs p (figuresOf sheet p h glyphs)
 
   granted : soundB r ≡ true → lengthB (length mem) ≡ true → a .number ≡ 0
-      → sheetDrawn sheet p h glyphs r entries mem ≡ allSent a out (sendingDone (state r mem) (take (a .first) out))
+      → sheetDrawn sheet p h glyphs r entries mem ≡ allSent a out (listSent (state r mem) (take (a .first) out))
   unfolding sheetDrawn
   granted s l z = rw (s, l, eq-eqb (a .number) 0 z)
 
@@ -48,7 +49,7 @@ module _ (sheet : List ℕ) (p h : ℕ) (glyphs : List ℕ) (r : Registers) (ent
       ∙ take-at figuresEntries (drop (0 + length figuresEntries) entries) (a .first) n
 
 pub drawn-right : SheetIsDrawn
-unfolding sendingDone
+unfolding listSent
 drawn-right sheet p h glyphs r entries mem q out′ drawn e z bytes ready typed lawful room =
     let t = translateDef sheet p h glyphs entries in
     let shown = whole sheet p h glyphs entries (t .out) (t .answer) refl z bytes r mem ready typed lawful room in

@@ -14,7 +14,8 @@ use Rattle.records.specs.declared.Figure.{Figure}
 use Rattle.records.specs.declared.Figure.the-variants.{Dot, Line, Rectangle, Glyph}
 use Rattle.blocks.specs.declared.Answer.{Answer}
 use Rattle.entries.specs.declared.Slope.{Slope}
-use Rattle.entries.specs.Entries.{opNumber, eadOf, cursorEntries, headEntries, both, dirFits, dirOf, slopeOf, lineBy, dotEntries}
+use Rattle.dots.specs.Operation.{operationNumber}
+use Rattle.entries.specs.Entries.{eadOf, cursorEntries, headEntries, both, dirFits, dirOf, slopeOf, lineBy, dotEntries}
 use Rattle.entries.specs.Entries.{lineEntries, rectangleEntries, glyphEntries, distance, least, greatest, flatB, plain, foot, rowsOf}
 use Rattle.entries.specs.Entries.{figureEntries, entriesOf}
 use Rattle.entries.proofs.PutLaws.{placed-is, placed-length}
@@ -41,7 +42,7 @@ small-at (e ∷ l) u zero = u .0
 small-at (e ∷ l) u (suc j) = small-at l (u .1) j
 
 -- ---- a figure's entries
-op-small : (op : Operation) → 0x120 + opNumber op < 512
+op-small : (op : Operation) → 0x120 + operationNumber op < 512
 op-small Replace = omega arith
 op-small Complement = omega arith
 op-small Reset = omega arith

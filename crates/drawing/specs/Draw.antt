@@ -2,35 +2,20 @@
 -- each. 01 has no number for a register set that is not ready (read mode, entries waiting, something being drawn) or for a
 -- picture that does not fit the memory: these are no refusals here. The entries are sent all the same, as `sentAll` says of any
 -- state, an entry that its port refuses is passed over, and the dots past the memory's end meet it modulo its length.
-use Prim.Native.Nat.{ℕ, _<_}
+use Prim.Native.Nat.{ℕ}
 use mathlib.Core.Bool.{cond}
 use mathlib.Core.List.{List}
 use lib.Dec.{eqb}
-use lib.ListN.{length, getD, take}
+use lib.ListN.{length, take}
 use Rattle.registers.specs.declared.Registers.{Registers}
 use Rattle.registers.specs.Sound.{soundB}
-use Rattle.registers.specs.State.{State, state}
+use Rattle.registers.specs.State.{state}
 use Rattle.units.specs.Run.{lengthB}
 use Rattle.blocks.specs.declared.Answer.{Answer}
 use Rattle.sheets.specs.Sheet.{translateDef}
-use Rattle.sending.specs.Send.{sentAll, unitsOf}
+use Rattle.sends.specs.Sends.{listSent}
+use Rattle.sends.specs.Sends.{Outcome as Sending}
 use Rattle.drawing.specs.declared.Drawn.{Drawn}
-use Rattle.drawing.specs.declared.Sending.{Sending}
-
--- "commands are the byte + 256": each of the first n entries has nine bits
-abbrev pub Nine : ℕ → List ℕ → Type 0
-Nine n e = (j : ℕ) → j < n → getD e j 0 < 512
-
--- the registers, the units and the memory after a list of entries
-pub record SentOutcome : Type 0 where
-  pub sending : Sending
-  pub mem : List ℕ
-
-abbrev pub sending : Sending → List ℕ → SentOutcome
-sending q m = record { sending = q; mem = m }
-
-unfoldable pub sendingDone : State → List ℕ → SentOutcome
-sendingDone s l = sending (record { regs = sentAll s l .regs; units = unitsOf s l }) (sentAll s l .mem)
 
 -- an answer, with what the lent entries and the lent memory then hold
 pub record Outcome : Type 0 where
@@ -46,15 +31,15 @@ abbrev pub refusal : ℕ → ℕ → ℕ → Registers → Drawn
 refusal n a b r = record { number = n; first = a; second = b; units = 0; regs = r }
 
 -- "Success is number 0, for a translation with the entries written": the translator's answer a, and all that its output then holds
-abbrev pub allSent : Answer → List ℕ → SentOutcome → Outcome
+abbrev pub allSent : Answer → List ℕ → Sending → Outcome
 allSent a e q =
-    outcome (record { number = 0; first = a .first; second = a .second; units = q .sending .units; regs = q .sending .regs }) e (q .mem)
+    outcome (record { number = 0; first = a .first; second = a .second; units = q .sent .units; regs = q .sent .regs }) e (q .mem)
 
 -- the translator's 11 to 20 with their two values, else the entries that it wrote are sent; "Memory, sheet and output are unaltered by a
 -- refusal"
 abbrev pub drawnBy : Answer → List ℕ → Registers → List ℕ → List ℕ → Outcome
 drawnBy a e r entries mem =
-    cond (eqb (a .number) 0) (allSent a e (sendingDone (state r mem) (take (a .first) e)))
+    cond (eqb (a .number) 0) (allSent a e (listSent (state r mem) (take (a .first) e)))
     (outcome (refusal (a .number) (a .first) (a .second) r) entries mem)
 
 -- "Checks run in table order": "1 register set unsound", "2 memory length wrong", then the translator's

@@ -2,6 +2,7 @@
 use mathlib.Core.Path.{_≡_}
 use mathlib.Core.Bool.{true, false}
 use Prim.Native.Nat.{ℕ}
+use Rattle.dots.specs.Operation.{operationOf}
 use Rattle.records.specs.declared.Raw.{Raw}
 use Rattle.records.specs.declared.Room.{Room}
 use Rattle.records.specs.declared.Record.{Record}
@@ -9,7 +10,7 @@ use Rattle.records.specs.declared.Refusal.{Refusal}
 use Rattle.records.specs.declared.Refusal.the-variants.{Form, GlyphNumber, Factor, Outside}
 use Rattle.records.specs.declared.Decoded.{Decoded}
 use Rattle.records.specs.declared.Decoded.the-variants.{Good, Refused}
-use Rattle.records.specs.Decode.{operationOf, recordFormB, knownB, factorB, figureOf, decodedOf}
+use Rattle.records.specs.Decode.{recordFormB, knownB, factorB, figureOf, decodedOf}
 use Rattle.records.specs.Inside.{insideB, judged}
 
 module _ (r : Raw) (glyphs : ℕ) where

@@ -3,7 +3,7 @@ use dots::Operation;
 ghost use mathlib.Core.Path.{_≡_};
 ghost use Prim.Native.Nat.{_<_};
 ghost use Rattle.records.specs.Raw.{byteAt, wordAt, recordPlace, rawAt};
-ghost use Rattle.records.specs.Decode.{operationOf, recordFormB, knownB, factorB, figureOf, decodedOf, decodedAt};
+ghost use Rattle.records.specs.Decode.{recordFormB, knownB, factorB, figureOf, decodedOf, decodedAt};
 ghost use Rattle.records.specs.Inside.{pointB, squareB, insideB, judged};
 ghost use Rattle.records.specs.Refused.{whyNumber, numberOf};
 
@@ -51,6 +51,13 @@ pub struct Raw {
     pub factor: u8,
 }
 
+// Where a block stands in a sheet, and its records in it.
+const BLOCK_BYTES: u32 = 512;
+
+const RECORDS_AT: u32 = 4;
+
+const RECORD_BYTES: u32 = 10;
+
 // The kinds of records.
 const DOT: u8 = 1;
 
@@ -92,7 +99,7 @@ pub fn word_at(s: &[u8], at: u32) -> u16
 fn raw_at(s: &[u8], block: u16, index: u16) -> Raw
     ensures { λ r. ⌜ r ≡ rawAt (now (s .entry)) (recordPlace block index) ⌝ }
 {
-    let at = 512 * block as u32 + 4 + 10 * index as u32;
+    let at = BLOCK_BYTES * block as u32 + RECORDS_AT + RECORD_BYTES * index as u32;
     let i = at as usize;
     Raw {
         kind: byte_at(s, i),
@@ -104,21 +111,6 @@ fn raw_at(s: &[u8], block: u16, index: u16) -> Raw
         number: byte_at(s, i + 6),
         factor: byte_at(s, i + 7),
     }
-}
-
-fn operation_of(b: u8) -> Operation
-    ensures { λ r. ⌜ r ≡ operationOf b ⌝ }
-{
-    if b == 0 {
-        return Operation::Replace;
-    }
-    if b == 1 {
-        return Operation::Complement;
-    }
-    if b == 2 {
-        return Operation::Reset;
-    }
-    Operation::Set
 }
 
 // A record's form: its kind, its operation, and the bytes that are zero.
@@ -178,7 +170,7 @@ fn decode(r: Raw, glyphs: u16) -> Decoded
         return Decoded::Refused(Refusal::Factor);
     }
     Decoded::Good(Record {
-        op: operation_of(r.op),
+        op: dots::operation_of(r.op),
         figure: figure_of(r),
     })
 }

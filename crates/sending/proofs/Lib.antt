@@ -1,6 +1,8 @@
 pub mod RunLaws
 pub mod WaitLaws
+pub mod KeptLaws
 pub mod SendLaws
+pub mod ReadLaws
 pub mod EntryLaws
 pub mod GroupLaws
 pub mod DrawLaws

@@ -3,7 +3,7 @@
 use mathlib.Core.Path.{_≡_, refl, sym, ap, ap₂, subst, _∙_}
 use mathlib.Core.Bool.{Bool, true, false, cond}
 use mathlib.Core.List.{List, [], _∷_, _++_}
-use Prim.Native.Nat.{ℕ, zero, suc, _+_, _-_, _≤_, _<_}
+use Prim.Native.Nat.{ℕ, zero, suc, _+_, _%_, _≤_, _<_}
 use native.Mathlib.Omega.{arith}
 use lib.Dec.{eqb, ltb}
 use lib.ListN.{length, length-append}
@@ -82,18 +82,18 @@ module _ (r : Registers) (m : List ℕ) (e : ℕ) (v : Waiting r) (small : e < 5
   unfolding parameterWritten
   by-parameter = rw (waiting-sound v e) (ap (λ (x : Mode). parameterIn x r e) (v .mode) ∙ room)
 
-  by-command : 256 ≤ e → commandWritten r (e - 256) ≡ granted 0 (queued r e)
+  by-command : 256 ≤ e → commandWritten r (e % 256) ≡ granted 0 (queued r e)
   unfolding commandWritten
   by-command h =
-      let z : eqb (e - 256) 0 ≡ false = ne-eqb (e - 256) 0 (λ q. other (omega arith)) in
-      let same : e - 256 + 256 ≡ e = omega arith in
-      rw (waiting-sound v e, z) (ap (λ (x : Mode). commandIn x r (e - 256)) (v .mode) ∙ ap (queuedOr3 r) same ∙ room)
+      let z : eqb (e % 256) 0 ≡ false = ne-eqb (e % 256) 0 (λ q. other (omega arith)) in
+      let same : e % 256 + 256 ≡ e = omega arith in
+      rw (waiting-sound v e, z) (ap (λ (x : Mode). commandIn x r (e % 256)) (v .mode) ∙ ap (queuedOr3 r) same ∙ room)
 
   -- the port takes it
   is-written : written r e ≡ granted 0 (queued r e)
   is-written = go (ltb e 256) refl
     where
-      go : (t : Bool) → ltb e 256 ≡ t → cond t (parameterWritten r e) (commandWritten r (e - 256)) ≡ granted 0 (queued r e)
+      go : (t : Bool) → ltb e 256 ≡ t → cond t (parameterWritten r e) (commandWritten r (e % 256)) ≡ granted 0 (queued r e)
       go true h = by-parameter
       go false h = by-command (ltb-false e 256 h)
 

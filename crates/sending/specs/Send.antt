@@ -2,7 +2,7 @@
 use mathlib.Core.Path.{_≡_}
 use mathlib.Core.Bool.{true, cond}
 use mathlib.Core.List.{List, [], _∷_}
-use Prim.Native.Nat.{ℕ, _+_, _-_}
+use Prim.Native.Nat.{ℕ, _+_, _%_}
 use lib.Dec.{ltb}
 use Rattle.registers.specs.declared.Mode.the-variants.{Write}
 use Rattle.registers.specs.declared.Work.the-variants.{Idle}
@@ -20,9 +20,9 @@ pub record Ready (r : Registers) : Type 0 where
   pub empty : r .buffer .count ≡ 0
   pub idle : r .work ≡ Idle
 
--- an entry goes to its port: "16-bit entries, commands are the byte + 256"
+-- an entry goes to its port: "16-bit entries, commands are the byte + 256"; bits past the ninth are not looked at
 abbrev pub written : Registers → ℕ → Answer
-written r e = cond (ltb e 256) (parameterWritten r e) (commandWritten r (e - 256))
+written r e = cond (ltb e 256) (parameterWritten r e) (commandWritten r (e % 256))
 
 -- the whole of a run's "32-bit budget"
 abbrev pub fullBudget : ℕ

@@ -9,12 +9,13 @@ use native.Mathlib.Omega.{arith}
 use lib.Dec.{eqb}
 use borrow.Author.Tests.{eqb-true, eqb-false, eq-eqb, leb-true, le-leb}
 use Rattle.geometry.specs.Plane.{dotOn, lineOn, borderOn, squareOn}
-use Rattle.geometry.proofs.OutsideLaws.{Judges, judges-only, dot-judged, line-judged, border-judged, square-judged}
+use Rattle.geometry.proofs.OutsideLaws.{Outside, Judges, judges-only, outside-only, dot-judged, line-judged, border-judged, square-judged}
 use Rattle.records.specs.declared.Raw.{Raw}
 use Rattle.records.specs.declared.Room.{Room}
 use Rattle.records.specs.declared.Record.{Record}
 use Rattle.records.specs.declared.Figure.the-variants.{Dot, Line, Rectangle, Glyph}
-use Rattle.records.specs.declared.Refusal.the-variants.{Form, GlyphNumber, Factor, Outside}
+use Rattle.records.specs.declared.Refusal.the-variants.{Form, GlyphNumber, Factor}
+use Rattle.records.specs.declared.Refusal.the-variants as refusals
 use Rattle.records.specs.declared.Decoded.the-variants.{Good, Refused}
 use Rattle.records.specs.Raw.{recordPlace}
 use Rattle.records.specs.Decode.{point, recordFormB, knownB, factorB, figureOf, decodedOf}
@@ -113,24 +114,36 @@ module _ (p h glyphs : ℕ) where
       → eqb (r .kind) 1 ≡ false → eqb (r .kind) 2 ≡ false → eqb (r .kind) 3 ≡ false → 0 < r .factor
   some-factor r w f a b c = f (else-glyph r w (eqb-false _ 1 a) (eqb-false _ 2 b) (eqb-false _ 3 c)) .0
 
-  -- the four tests of a record in their order
-  tests : (a b c : Bool) (q : Record)
-      → numberOf (judged m (cond a (cond b (cond c (Good q) (Refused Factor)) (Refused GlyphNumber)) (Refused Form))) ≡ 0
-      → (a ≡ true) × (b ≡ true) × (c ≡ true) × (insideB m (q .figure) ≡ true)
-  tests true true true q e = (refl, refl, refl, go (insideB m (q .figure)) e)
-    where
-      go : (d : Bool) → numberOf (cond d (Good q) (Refused Outside)) ≡ 0 → d ≡ true
-      go true k = refl
-      go false k = absurd (omega arith)
-  tests true true false q e = absurd (omega arith)
-  tests true false c q e = absurd (omega arith)
-  tests false b c q e = absurd (omega arith)
+  -- the four tests of a record in their order: past 16 to 18 the fourth decides
+  abbrev decodedBy : Bool → Bool → Bool → Record → Decoded
+  decodedBy a b c q = cond a (cond b (cond c (Good q) (Refused Factor)) (Refused GlyphNumber)) (Refused Form)
+
+  tests : (a b c : Bool) (q : Record) (x : ℕ) → numberOf (judged m (decodedBy a b c q)) ≡ x → (x ≡ 16 → ⊥) → (x ≡ 17 → ⊥) → (x ≡ 18 → ⊥)
+      → (a ≡ true) × (b ≡ true) × (c ≡ true) × (numberOf (judged m (Good q)) ≡ x)
+  tests true true true q x e f g k = (refl, refl, refl, e)
+  tests true true false q x e f g k = absurd (k (sym e))
+  tests true false c q x e f g k = absurd (g (sym e))
+  tests false b c q x e f g k = absurd (f (sym e))
+
+  passed : (a b c : Bool) (q : Record) → numberOf (decodedBy a b c q) ≡ 0 → (a ≡ true) × (b ≡ true) × (c ≡ true)
+  passed true true true q e = (refl, refl, refl)
+  passed true true false q e = absurd (omega arith)
+  passed true false c q e = absurd (omega arith)
+  passed false b c q e = absurd (omega arith)
+
+  test-in : (d : Bool) (q : Record) → numberOf (cond d (Good q) (Refused refusals.Outside)) ≡ 0 → d ≡ true
+  test-in true q e = refl
+  test-in false q e = absurd (omega arith)
+
+  test-out : (d : Bool) (q : Record) → numberOf (cond d (Good q) (Refused refusals.Outside)) ≡ 19 → d ≡ false
+  test-out true q e = absurd (omega arith)
+  test-out false q e = refl
 
   module _ (r : Raw) where
     pub record-lawful : numberOf (judged m (decodedOf r glyphs)) ≡ 0 → LawfulRecord p h glyphs r
     unfolding decodedOf
     record-lawful e =
-        let w = tests (recordFormB r) (knownB r glyphs) (factorB r) _ e in
+        let w = tests (recordFormB r) (knownB r glyphs) (factorB r) _ 0 e (λ k. omega arith) (λ k. omega arith) (λ k. omega arith) in
         let f = form-means r (w .0) in
         let g = factor-means r (w .2) in
         record {
@@ -141,7 +154,7 @@ module _ (p h glyphs : ℕ) where
           glyph-zeros = f .glyph-zeros;
           number = known-means r (w .1);
           factor = g;
-          inside = record-judged r (some-factor r f g) .inside (w .3);
+          inside = record-judged r (some-factor r f g) .inside (test-in (insideB m (figureOf r)) _ (w .3));
         }
 
     pub record-granted : LawfulRecord p h glyphs r → numberOf (judged m (decodedOf r glyphs)) ≡ 0
@@ -160,3 +173,16 @@ module _ (p h glyphs : ℕ) where
           factor-is r (w .factor),
           judges-only (record-judged r (some-factor r f (w .factor))) (w .inside),
         )
+
+    -- "19 | a dot outside": some dot of the record's shape lies outside the plane, and where 16 to 18 do not arise only there
+    pub nineteen-means : numberOf (judged m (decodedOf r glyphs)) ≡ 19 → Outside p h (recordOn r)
+    unfolding decodedOf
+    nineteen-means e =
+        let w = tests (recordFormB r) (knownB r glyphs) (factorB r) _ 19 e (λ k. omega arith) (λ k. omega arith) (λ k. omega arith) in
+        record-judged r (some-factor r (form-means r (w .0)) (factor-means r (w .2))) .outside (test-out (insideB m (figureOf r)) _ (w .3))
+
+    pub nineteen-only : numberOf (decodedOf r glyphs) ≡ 0 → Outside p h (recordOn r) → numberOf (judged m (decodedOf r glyphs)) ≡ 19
+    unfolding decodedOf
+    nineteen-only z o =
+        let w = passed (recordFormB r) (knownB r glyphs) (factorB r) _ z in
+        rw (w .0, w .1, w .2, outside-only (record-judged r (some-factor r (form-means r (w .0)) (factor-means r (w .2)))) o)

@@ -10,19 +10,38 @@ ghost use Rattle.sheets.specs.Slots.{recordsChecked};
 ghost use Rattle.sheets.specs.Sheet.{planeB, tableB, sheetLengthB, planeRefusal, tableRefusal, lengthRefusal, frameRefusal};
 ghost use Rattle.sheets.specs.Sheet.{roomOf, sheetRefusal, outcome, translateDef};
 
+// A block's bytes and its records; a glyph's bytes.
+const BLOCK_BYTES: usize = 512;
+
+const RECORDS: u16 = 50;
+
+const GLYPH_BYTES: usize = 8;
+
+// The command PITCH as an entry.
+const PITCH: u16 = 0x147;
+
+// The numbers of refusal: the plane, the glyph table, the sheet's length, an output too short.
+const PLANE: u8 = 11;
+
+const TABLE: u8 = 12;
+
+const LENGTH: u8 = 13;
+
+const SHORT: u8 = 20;
+
 // Slot k is record k % 50 of block k / 50: whether the block's count reaches it.
 fn used(s: &[u8], k: u16) -> bool
     ensures { λ r. ⌜ r ≡ usedB (now (s .entry)) k ⌝ }
 {
-    let count = records::byte_at(s, 512 * (k / 50) as usize + 2);
-    k % 50 < count as u16
+    let count = records::byte_at(s, BLOCK_BYTES * (k / RECORDS) as usize + 2);
+    k % RECORDS < count as u16
 }
 
 // What a slot's record stands for.
 fn slot_decoded(s: &[u8], k: u16, m: Room) -> Decoded
     ensures { λ r. ⌜ r ≡ slotDecoded (now (s .entry)) m k ⌝ }
 {
-    records::judge(m, records::decode_record(s, k / 50, k % 50, m.glyphs))
+    records::judge(m, records::decode_record(s, k / RECORDS, k % RECORDS, m.glyphs))
 }
 
 // The number of a record's refusal, 0 for none.
@@ -40,13 +59,13 @@ fn check_records(s: &[u8], n: u8, m: Room) -> Answer
     ensures { λ r. ⌜ r ≡ recordsChecked (now (s .entry)) m n ⌝ }
 {
     let mut k: u16 = 0;
-    while k < 50 * n as u16 {
+    while k < RECORDS * n as u16 {
         let x = slot_refusal(s, k, m);
         if x != 0 {
             return Answer {
                 number: x,
-                first: (k / 50) as u32,
-                second: (k % 50) as u32,
+                first: (k / RECORDS) as u32,
+                second: (k % RECORDS) as u32,
             };
         }
         k += 1;
@@ -78,7 +97,7 @@ fn entries_needed(s: &[u8], n: u8, m: Room) -> u32
 {
     let mut need: u32 = 2;
     let mut k: u16 = 0;
-    while k < 50 * n as u16 {
+    while k < RECORDS * n as u16 {
         need += slot_size(s, k, m);
         k += 1;
     }
@@ -105,10 +124,10 @@ fn put_slot(out: &mut [u16], at: u32, s: &[u8], k: u16, m: Room, t: &[u8], p: u8
 fn write_out(out: &mut [u16], s: &[u8], n: u8, m: Room, t: &[u8], p: u8)
     ensures { λ _. ⌜ now (out .exit) ≡ placed (now (out .entry)) 0 (translation (now (t .entry)) p (figures (now (s .entry)) m n)) ⌝ }
 {
-    entries::put(out, 0, &[0x147, p as u16]);
+    entries::put(out, 0, &[PITCH, p as u16]);
     let mut at: u32 = 2;
     let mut k: u16 = 0;
-    while k < 50 * n as u16 {
+    while k < RECORDS * n as u16 {
         at += put_slot(out, at, s, k, m, t, p);
         k += 1;
     }
@@ -126,32 +145,32 @@ pub fn plane_fits(p: u32, h: u32) -> bool
 pub fn table_fits(g: usize) -> bool
     ensures { λ r. ⌜ r ≡ tableB g ⌝ }
 {
-    (g % 8 == 0) & (g <= 2048)
+    (g % GLYPH_BYTES == 0) & (g <= 2048)
 }
 
 // So many bytes are a sheet's.
 pub fn sheet_fits(l: usize) -> bool
     ensures { λ r. ⌜ r ≡ sheetLengthB l ⌝ }
 {
-    (l % 512 == 0) & (1 <= l / 512) & (l / 512 <= 16)
+    (l % BLOCK_BYTES == 0) & (1 <= l / BLOCK_BYTES) & (l / BLOCK_BYTES <= 16)
 }
 
 pub fn plane_refusal(p: u32, h: u32) -> Answer
     ensures { λ r. ⌜ r ≡ planeRefusal p h ⌝ }
 {
-    blocks::refusal_unless(plane_fits(p, h), 11)
+    blocks::refusal_unless(plane_fits(p, h), PLANE)
 }
 
 pub fn table_refusal(g: usize) -> Answer
     ensures { λ r. ⌜ r ≡ tableRefusal g ⌝ }
 {
-    blocks::refusal_unless(table_fits(g), 12)
+    blocks::refusal_unless(table_fits(g), TABLE)
 }
 
 pub fn length_refusal(l: usize) -> Answer
     ensures { λ r. ⌜ r ≡ lengthRefusal l ⌝ }
 {
-    blocks::refusal_unless(sheet_fits(l), 13)
+    blocks::refusal_unless(sheet_fits(l), LENGTH)
 }
 
 // The plane, the glyph table's length and the sheet's.
@@ -170,7 +189,7 @@ fn room_of(p: u32, h: u32, g: usize) -> Room
     Room {
         across: (16 * p) as u16,
         down: h as u16,
-        glyphs: (g / 8) as u16,
+        glyphs: (g / GLYPH_BYTES) as u16,
     }
 }
 
@@ -182,7 +201,7 @@ pub fn sheet_refusal(s: &[u8], p: u32, h: u32, t: &[u8]) -> Answer
     if f.number != 0 {
         return f;
     }
-    let n = (s.len() / 512) as u8;
+    let n = (s.len() / BLOCK_BYTES) as u8;
     let m = room_of(p, h, t.len());
     let b = blocks::check_blocks(s, n);
     let r = check_records(s, n, m);
@@ -197,12 +216,12 @@ pub fn translate(s: &[u8], p: u32, h: u32, t: &[u8], out: &mut [u16]) -> Answer
     if refusal.number != 0 {
         return refusal;
     }
-    let n = (s.len() / 512) as u8;
+    let n = (s.len() / BLOCK_BYTES) as u8;
     let m = room_of(p, h, t.len());
     let need = entries_needed(s, n, m);
     if out.len() < need as usize {
         return Answer {
-            number: 20,
+            number: SHORT,
             first: need,
             second: 0,
         };

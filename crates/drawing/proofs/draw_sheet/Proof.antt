@@ -1,8 +1,6 @@
 -- `draw_sheet` is `sheetDrawn`: one law of DrawLaws for each way out.
 use mathlib.Core.Path.{sym, _∙_}
-use native.Mathlib.Omega.{arith}
 use borrow.Author.Tests.{not-true, not-false}
-use Rattle.drawing.proofs.SmallLaws.{sendable}
 use Rattle.drawing.proofs.DrawLaws.{way-unsound, way-mislong, way-refused, way-sent}
 use borrow.Author.Needs.{needs}
 use Rattle.drawing.proofs.draw_sheet.Statement.{statement}
@@ -46,14 +44,7 @@ returns-3 c =
     (c .before .before .before .before .before .translate .ensures) (c .before .if3 .taken) (c .refuse3 .ensures)
 
 send-all-requires : tie.Need-send-all-requires
-send-all-requires c κs =
-    let b = c .before .before .before .before .before .before .before .before in
-    let k = sendable _ _ _ _ _ (c .before .before .before .before .before .before .translate .ensures) (c .before .before .if3 .left)
-    (λ j. omega (
-      arith,
-      b .before .before .before .before .before .before .shared-slice-known2 .given
-          j,
-    )) in (k .fits, k .nine)
+send-all-requires c κs = search needs
 
 same-length-2 : tie.Need-same-length-2
 same-length-2 c = search needs
