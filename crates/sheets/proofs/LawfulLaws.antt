@@ -16,6 +16,7 @@ use Rattle.records.specs.declared.Record.{Record}
 use Rattle.records.specs.declared.Figure.the-variants.{Dot, Line, Rectangle, Glyph}
 use Rattle.records.specs.declared.Refusal.the-variants.{Form, GlyphNumber, Factor}
 use Rattle.records.specs.declared.Refusal.the-variants as refusals
+use Rattle.records.specs.declared.Decoded.{Decoded}
 use Rattle.records.specs.declared.Decoded.the-variants.{Good, Refused}
 use Rattle.records.specs.Raw.{recordPlace}
 use Rattle.records.specs.Decode.{point, recordFormB, knownB, factorB, figureOf, decodedOf}

@@ -41,7 +41,10 @@ fn used(s: &[u8], k: u16) -> bool
 fn slot_decoded(s: &[u8], k: u16, m: Room) -> Decoded
     ensures { λ r. ⌜ r ≡ slotDecoded (now (s .entry)) m k ⌝ }
 {
-    records::judge(m, records::decode_record(s, k / RECORDS, k % RECORDS, m.glyphs))
+    records::judge(
+        m,
+        records::decode_record(s, k / RECORDS, k % RECORDS, m.glyphs),
+    )
 }
 
 // The number of a record's refusal, 0 for none.
