@@ -7,8 +7,10 @@ use mathlib.Core.List.{List}
 use Prim.Native.Nat.{ℕ, zero, suc, _+_, _-_, _*_, _%_, _<_, _≤_}
 use native.Mathlib.Omega.{arith}
 use mir.Val.{boolByte}
-use borrow.Author.Tests.{eq-eqb, ne-eqb, lt-leb}
+use lib.Dec.{eqb}
+use borrow.Author.Tests.{eq-eqb, ne-eqb, eqb-true, lt-leb}
 use Rattle.records.specs.Raw.{byteAt, wordAt}
+use Rattle.records.proofs.TestLaws.{and-both}
 use Rattle.blocks.specs.Answer.{answer, firstFrom}
 use Rattle.blocks.specs.Block.{sumWords, checkOf, countOf, numberB, countB, lastB, zerosB, spareB, unusedB, headB, blockRefusal}
 use Rattle.blocks.specs.Block.{blockAnswer, blocksChecked}
@@ -87,3 +89,21 @@ module _ (s : List ℕ) (n b : ℕ) where
 
   pub blocks-end : n ≤ b → answer 0 0 0 ≡ firstFrom (blockAnswer s n) (n - b) b
   blocks-end h = first-end (blockAnswer s n) n b h
+
+-- ---- what the tests of a block say, place by place
+pub zeros-all : (n : ℕ) (s : List ℕ) (at : ℕ) → zerosB n s at ≡ true → (j : ℕ) → j < n → byteAt s (at + j) ≡ 0
+unfolding zerosB
+zeros-all zero s at e j h = absurd (omega arith)
+zeros-all (suc n) s at e zero h = let z : at + 0 ≡ at = omega arith in rw z (eqb-true _ 0 (and-both (eqb (byteAt s at) 0) _ e .0))
+zeros-all (suc n) s at e (suc j) h =
+    let z : at + 1 + j ≡ at + suc j = omega arith in
+    rw (← z) (zeros-all n s (at + 1) (and-both (eqb (byteAt s at) 0) _ e .1) j (omega arith))
+
+pub all-zeros : (n : ℕ) (s : List ℕ) (at : ℕ) → ((j : ℕ) → j < n → byteAt s (at + j) ≡ 0) → zerosB n s at ≡ true
+unfolding zerosB
+all-zeros zero s at h = refl
+all-zeros (suc n) s at h =
+    let z : at + 0 ≡ at = omega arith in
+    let first : byteAt s at ≡ 0 = rw z at (h 0 (omega arith)) in
+    rw (eq-eqb _ 0 first)
+    (all-zeros n s (at + 1) (λ j k. let y : at + 1 + j ≡ at + suc j = omega arith in rw y (h (suc j) (omega arith))))

@@ -1,13 +1,52 @@
 // The blocks of a drawing sheet: their checks, headings, spare bytes and unused records.
 ghost use mathlib.Core.Path.{_≡_};
-ghost use Rattle.blocks.specs.Answer.{orElse};
+ghost use Rattle.blocks.specs.Answer.{refusalUnless, orElse};
 ghost use Rattle.blocks.specs.Block.{checkOf, zerosB, headB, blockRefusal, blocksChecked};
+
+// A block's bytes, the words that its check sums up, and what the sum starts from.
+const BLOCK_BYTES: u32 = 512;
+
+const WORDS: u32 = 255;
+
+const CHECK_START: u16 = 7220;
+
+// Where a block's check, its spare bytes and its records stand, and how many bytes the last two have.
+const CHECK_AT: u32 = 510;
+
+const SPARE_AT: u32 = 504;
+
+const SPARE_BYTES: u32 = 6;
+
+const RECORDS_AT: u32 = 4;
+
+const RECORDS_BYTES: u32 = 500;
+
+const RECORD_BYTES: u32 = 10;
+
+// How many figures a block may have.
+const FIGURES: u8 = 50;
+
+// The numbers of a block's refusals.
+const WRONG_CHECK: u8 = 14;
+
+const WRONG_HEADING: u8 = 15;
 
 // An answer: the number of the refusal or 0, and the two values with it.
 pub struct Answer {
     pub number: u8,
     pub first: u32,
     pub second: u32,
+}
+
+// A refusal with 0, 0 where a test fails.
+pub fn refusal_unless(ok: bool, number: u8) -> Answer
+    ensures { λ r. ⌜ r ≡ refusalUnless ok number ⌝ }
+{
+    Answer {
+        number: if ok { 0 } else { number },
+        first: 0,
+        second: 0,
+    }
 }
 
 // The first answer if it is a refusal, else the second.
@@ -21,10 +60,10 @@ pub fn first_refusal(a: Answer, b: Answer) -> Answer
 fn check_sum(s: &[u8], b: u16) -> u16
     ensures { λ r. ⌜ r ≡ checkOf (now (s .entry)) b ⌝ }
 {
-    let mut sum: u16 = 7220;
+    let mut sum: u16 = CHECK_START;
     let mut i: u32 = 0;
-    while i < 255 {
-        let word = records::word_at(s, 512 * b as u32 + 2 * i);
+    while i < WORDS {
+        let word = records::word_at(s, BLOCK_BYTES * b as u32 + 2 * i);
         sum = std::num::wrapping_add_u16(sum, word);
         i += 1;
     }
@@ -49,27 +88,27 @@ fn zeros(s: &[u8], at: u32, n: u32) -> bool
 fn headed(s: &[u8], b: u16, n: u8) -> bool
     ensures { λ r. ⌜ r ≡ headB (now (s .entry)) n b ⌝ }
 {
-    let at = 512 * b as u32;
+    let at = BLOCK_BYTES * b as u32;
     let number = records::word_at(s, at);
     let count = records::byte_at(s, at as usize + 2);
-    if 50 < count {
+    if FIGURES < count {
         return false;
     }
     let last = records::byte_at(s, at as usize + 3);
-    let used = 10 * count as u32;
-    let spare = zeros(s, at + 504, 6);
-    let unused = zeros(s, at + 4 + used, 500 - used);
+    let used = RECORD_BYTES * count as u32;
+    let spare = zeros(s, at + SPARE_AT, SPARE_BYTES);
+    let unused = zeros(s, at + RECORDS_AT + used, RECORDS_BYTES - used);
     (number == b) & (last == (b as u32 + 1 == n as u32) as u8) & spare & unused
 }
 
 fn block_refusal(s: &[u8], b: u16, n: u8) -> u8
     ensures { λ r. ⌜ r ≡ blockRefusal (now (s .entry)) n b ⌝ }
 {
-    if check_sum(s, b) != records::word_at(s, 512 * b as u32 + 510) {
-        return 14;
+    if check_sum(s, b) != records::word_at(s, BLOCK_BYTES * b as u32 + CHECK_AT) {
+        return WRONG_CHECK;
     }
     if !headed(s, b, n) {
-        return 15;
+        return WRONG_HEADING;
     }
     0
 }

@@ -1,12 +1,13 @@
--- Every figure that a sheet holds lies in the plane: the decoder gives a figure only where its tests of the corners hold, and a
--- record that is refused gives none. No word of what else is refused.
-use mathlib.Core.Path.{_≡_}
-use mathlib.Core.Bool.{true, _&&_}
+-- Every figure that a sheet holds lies in the plane: a figure that was decoded has a factor of 1 to 16, it is taken only where its corners
+-- or its square pass the test of 19, and a record that is refused gives none. No word of what else is refused.
+use mathlib.Core.Path.{_≡_, refl}
+use mathlib.Core.Bool.{Bool, true, false, cond, _&&_}
 use mathlib.Core.List.{List, [], _∷_, _++_}
 use Prim.Native.Nat.{ℕ, zero, suc, _+_, _*_, _≤_, _<_}
 use native.Mathlib.Omega.{arith}
 use lib.Dec.{eqb, ltb, leb}
-use borrow.Author.Tests.{ltb-true, leb-true}
+use borrow.Author.Tests.{ltb-true, leb-true, eqb-false}
+use Rattle.dots.specs.Operation.{operationOf}
 use Rattle.geometry.specs.Plane.{InPlane}
 use Rattle.geometry.proofs.TestLaws.{cases, and-both}
 use Rattle.records.specs.declared.Raw.{Raw}
@@ -18,8 +19,11 @@ use Rattle.records.specs.declared.Figure.the-variants.{Dot, Line, Rectangle, Gl
 use Rattle.records.specs.declared.Decoded.{Decoded}
 use Rattle.records.specs.declared.Decoded.the-variants.{Good, Refused}
 use Rattle.records.specs.Raw.{rawAt}
-use Rattle.records.specs.Decode.{formB, insideB, knownB, factorB, fitsB, dotOf, lineOf, rectOf, glyphOf, decodedOf, decodedAt}
-use Rattle.sheets.specs.Slots.{placeOf, usedB, figuresIn, slotFigures, figuresFrom, figures}
+use Rattle.records.specs.declared.Refusal.the-variants.{Form, GlyphNumber, Factor}
+use Rattle.records.specs.Decode.{point, recordFormB, knownB, factorB, figureOf, decodedOf, decodedAt}
+use Rattle.records.specs.Inside.{pointB, insideB, judged}
+use Rattle.records.proofs.FormLaws.{Formed, form-means, factor-means, else-glyph}
+use Rattle.sheets.specs.Slots.{placeOf, usedB, slotDecoded, figuresIn, slotFigures, figuresFrom, figures}
 use Rattle.sheets.specs.Sheet.{roomOf}
 
 -- a glyph's factor is 1 to 16, and its square lies in the plane
@@ -35,6 +39,25 @@ Inside p h (Line a b) = InPlane p h (a .x) (a .y) × InPlane p h (b .x) (b .y)
 Inside p h (Rectangle a b) = InPlane p h (a .x) (a .y) × InPlane p h (b .x) (b .y)
 Inside p h (Glyph a n g) = Square p h a g
 
+-- a glyph's factor is 1 to 16, as 18 asks
+abbrev pub Factored : Figure → Type 0
+Factored (Dot a) = Unit
+Factored (Line a b) = Unit
+Factored (Rectangle a b) = Unit
+Factored (Glyph a n g) = (1 ≤ g) × (g ≤ 16)
+
+factored : (r : Raw) → Formed r → (r .kind ≡ 4 → (1 ≤ r .factor) × (r .factor ≤ 16)) → Factored (figureOf r)
+unfolding figureOf
+factored r w f = go (eqb (r .kind) 1) refl (eqb (r .kind) 2) refl (eqb (r .kind) 3) refl
+  where
+    go : (a : Bool) → eqb (r .kind) 1 ≡ a → (b : Bool) → eqb (r .kind) 2 ≡ b → (c : Bool) → eqb (r .kind) 3 ≡ c
+        → Factored (cond a (Dot (point (r .x) (r .y))) (cond b (Line (point (r .x) (r .y)) (point (r .x1) (r .y1)))
+        (cond c (Rectangle (point (r .x) (r .y)) (point (r .x1) (r .y1))) (Glyph (point (r .x) (r .y)) (r .number) (r .factor)))))
+    go true x b y c z = tt
+    go false x true y c z = tt
+    go false x false y true z = tt
+    go false x false y false z = f (else-glyph r w (eqb-false _ 1 x) (eqb-false _ 2 y) (eqb-false _ 3 z))
+
 abbrev pub AllInside : ℕ → ℕ → List Record → Type 0
 AllInside p h [] = Unit
 AllInside p h (r ∷ l) = Inside p h (r .figure) × AllInside p h l
@@ -47,49 +70,36 @@ module _ (p h k : ℕ) where
   Ok (Good r) = Inside p h (r .figure)
   Ok (Refused w) = Unit
 
-  in-plane : (x y : ℕ) → insideB m x y ≡ true → InPlane p h x y
-  in-plane x y e = let t = and-both (ltb x (16 * p)) (ltb y h) e in record { column = ltb-true _ _ (t .0); row = ltb-true _ _ (t .1) }
+  in-plane : (a : Point) → pointB m a ≡ true → InPlane p h (a .x) (a .y)
+  in-plane a e =
+      let t = and-both (ltb (a .x) (16 * p)) (ltb (a .y) h) e in record { column = ltb-true _ _ (t .0); row = ltb-true _ _ (t .1) }
 
-  module _ (r : Raw) where
-    both-in : (insideB m (r .x) (r .y) && insideB m (r .x1) (r .y1)) ≡ true → InPlane p h (r .x) (r .y) × InPlane p h (r .x1) (r .y1)
-    both-in e =
-        let t = and-both (insideB m (r .x) (r .y)) (insideB m (r .x1) (r .y1)) e in
-        (in-plane (r .x) (r .y) (t .0), in-plane (r .x1) (r .y1) (t .1))
+  both-in : (a b : Point) → (pointB m a && pointB m b) ≡ true → InPlane p h (a .x) (a .y) × InPlane p h (b .x) (b .y)
+  both-in a b e = let t = and-both (pointB m a) (pointB m b) e in (in-plane a (t .0), in-plane b (t .1))
 
-    ok-dot : Ok (dotOf r m)
-    unfolding dotOf
-    ok-dot = cases Ok (insideB m (r .x) (r .y)) (in-plane (r .x) (r .y)) (λ e. tt)
+  -- a figure's own test
+  in-figure : (f : Figure) → Factored f → insideB m f ≡ true → Inside p h f
+  in-figure (Dot a) w e = in-plane a e
+  in-figure (Line a b) w e = both-in a b e
+  in-figure (Rectangle a b) w e = both-in a b e
+  in-figure (Glyph a n g) w e =
+      let t = and-both (leb (a .x + 8 * g) (16 * p)) (leb (a .y + 8 * g) h) e in
+      record { some = w .0; few = omega (arith, w .1); right = leb-true _ _ (t .0); low = leb-true _ _ (t .1) }
 
-    ok-line : Ok (lineOf r m)
-    unfolding lineOf
-    ok-line = cases Ok (insideB m (r .x) (r .y) && insideB m (r .x1) (r .y1)) both-in (λ e. tt)
-
-    ok-rectangle : Ok (rectOf r m)
-    unfolding rectOf
-    ok-rectangle = cases Ok (insideB m (r .x) (r .y) && insideB m (r .x1) (r .y1)) both-in (λ e. tt)
-
-    ok-glyph : Ok (glyphOf r m)
-    unfolding glyphOf
-    ok-glyph =
-        cases Ok (knownB r m)
-        (λ e. cases Ok (factorB r)
-        (λ f. cases Ok (fitsB r m)
-        (λ g. let u = and-both (leb 1 (r .factor)) (leb (r .factor) 16) f in
-        let v = and-both (leb (r .x + 8 * r .factor) (16 * p)) (leb (r .y + 8 * r .factor) h) g in
-        record {
-          some = leb-true _ _ (u .0);
-          few = omega (arith, leb-true (r .factor) 16 (u .1));
-          right = leb-true _ _ (v .0);
-          low = leb-true _ _ (v .1);
-        }) (λ g. tt))
-        (λ f. tt)) (λ e. tt)
-
-    ok-decoded : Ok (decodedOf r m)
-    unfolding decodedOf
-    ok-decoded =
-        cases Ok (formB r)
-        (λ e. cases Ok (eqb (r .kind) 1) (λ f. ok-dot)
-        (λ f. cases Ok (eqb (r .kind) 2) (λ g. ok-line) (λ g. cases Ok (eqb (r .kind) 3) (λ i. ok-rectangle) (λ i. ok-glyph)))) (λ e. tt)
+  -- what the decoder gives is judged
+  ok-decoded : (r : Raw) (g : ℕ) → Ok (judged m (decodedOf r g))
+  unfolding decodedOf
+  ok-decoded r g =
+      go (recordFormB r) refl (knownB r g) (factorB r) refl
+    where
+      go : (a : Bool) → recordFormB r ≡ a → (b c : Bool) → factorB r ≡ c
+          → Ok (judged m (cond a (cond b (cond c (Good (record { op = operationOf (r .op); figure = figureOf r })) (Refused Factor))
+          (Refused GlyphNumber)) (Refused Form)))
+      go true e true true f =
+          cases Ok (insideB m (figureOf r)) (in-figure (figureOf r) (factored r (form-means r e) (factor-means r f))) (λ i. tt)
+      go true e true false f = tt
+      go true e false c f = tt
+      go false e b c f = tt
 
   in-append : (a b : List Record) → AllInside p h a → AllInside p h b → AllInside p h (a ++ b)
   in-append [] b u v = v
@@ -102,7 +112,8 @@ module _ (p h k : ℕ) where
   module _ (s : List ℕ) where
     in-slot : (i : ℕ) → AllInside p h (slotFigures s m i)
     unfolding slotFigures decodedAt
-    in-slot i = cases (AllInside p h) (usedB s i) (λ e. in-decoded (decodedAt s (placeOf i) m) (ok-decoded (rawAt s (placeOf i)))) (λ e. tt)
+    in-slot i =
+        cases (AllInside p h) (usedB s i) (λ e. in-decoded (slotDecoded s m i) (ok-decoded (rawAt s (placeOf i)) (m .glyphs))) (λ e. tt)
 
     in-from : (f i : ℕ) → AllInside p h (figuresFrom s m f i)
     unfolding figuresFrom

@@ -1,32 +1,42 @@
--- One law for each way out of `decode`: what the tests on that way say is what `decodedOf` asks, in its order.
+-- One law for each way out of `decode` and of `judge`: what the tests on that way say is what `decodedOf` and `judged` ask, in their order.
 use mathlib.Core.Path.{_≡_}
 use mathlib.Core.Bool.{true, false}
-use borrow.Author.Tests.{eq-eqb, ne-eqb}
+use Prim.Native.Nat.{ℕ}
+use Rattle.dots.specs.Operation.{operationOf}
 use Rattle.records.specs.declared.Raw.{Raw}
 use Rattle.records.specs.declared.Room.{Room}
-use Rattle.records.specs.declared.Refusal.the-variants.{Form}
+use Rattle.records.specs.declared.Record.{Record}
+use Rattle.records.specs.declared.Refusal.{Refusal}
+use Rattle.records.specs.declared.Refusal.the-variants.{Form, GlyphNumber, Factor, Outside}
 use Rattle.records.specs.declared.Decoded.{Decoded}
-use Rattle.records.specs.declared.Decoded.the-variants.{Refused}
-use Rattle.records.specs.Decode.{formB, dotOf, lineOf, rectOf, glyphOf, decodedOf}
+use Rattle.records.specs.declared.Decoded.the-variants.{Good, Refused}
+use Rattle.records.specs.Decode.{recordFormB, knownB, factorB, figureOf, decodedOf}
+use Rattle.records.specs.Inside.{insideB, judged}
 
-module _ (r : Raw) (m : Room) where
-  pub refuses : formB r ≡ false → Refused Form ≡ decodedOf r m
+module _ (r : Raw) (glyphs : ℕ) where
+  pub misformed : recordFormB r ≡ false → Refused Form ≡ decodedOf r glyphs
   unfolding decodedOf
-  refuses f = rw f
+  misformed f = rw f
 
-  pub dots : {q : Decoded} → formB r ≡ true → r .kind ≡ 1 → q ≡ dotOf r m → q ≡ decodedOf r m
+  pub unknown : recordFormB r ≡ true → knownB r glyphs ≡ false → Refused GlyphNumber ≡ decodedOf r glyphs
   unfolding decodedOf
-  dots f a e = rw (e, f, eq-eqb _ 1 a)
+  unknown f k = rw (f, k)
 
-  pub lines : {q : Decoded} → formB r ≡ true → (r .kind ≡ 1 → ⊥) → r .kind ≡ 2 → q ≡ lineOf r m → q ≡ decodedOf r m
+  pub misfactored : recordFormB r ≡ true → knownB r glyphs ≡ true → factorB r ≡ false → Refused Factor ≡ decodedOf r glyphs
   unfolding decodedOf
-  lines f a b e = rw (e, f, ne-eqb _ 1 a, eq-eqb _ 2 b)
+  misfactored f k g = rw (f, k, g)
 
-  pub rectangles : {q : Decoded} → formB r ≡ true → (r .kind ≡ 1 → ⊥) → (r .kind ≡ 2 → ⊥) → r .kind ≡ 3 → q ≡ rectOf r m → q ≡ decodedOf r m
+  pub stands-for : recordFormB r ≡ true → knownB r glyphs ≡ true → factorB r ≡ true
+      → Good (record { op = operationOf (r .op); figure = figureOf r }) ≡ decodedOf r glyphs
   unfolding decodedOf
-  rectangles f a b d e = rw (e, f, ne-eqb _ 1 a, ne-eqb _ 2 b, eq-eqb _ 3 d)
+  stands-for f k g = rw (f, k, g)
 
-  pub glyphs : {q : Decoded} → formB r ≡ true → (r .kind ≡ 1 → ⊥) → (r .kind ≡ 2 → ⊥) → (r .kind ≡ 3 → ⊥) → q ≡ glyphOf r m
-      → q ≡ decodedOf r m
-  unfolding decodedOf
-  glyphs f a b d e = rw (e, f, ne-eqb _ 1 a, ne-eqb _ 2 b, ne-eqb _ 3 d)
+module _ (m : Room) {d : Decoded} where
+  pub stays-refused : {w : Refusal} → d ≡ Refused w → d ≡ judged m d
+  stays-refused e = rw e
+
+  pub stays-good : {r : Record} → d ≡ Good r → insideB m (r .figure) ≡ true → Good r ≡ judged m d
+  stays-good e i = rw (e, i)
+
+  pub falls-outside : {r : Record} → d ≡ Good r → insideB m (r .figure) ≡ false → Refused Outside ≡ judged m d
+  falls-outside e i = rw (e, i)

@@ -1,3 +1,4 @@
 pub mod Raw
 pub mod Decode
+pub mod Inside
 pub mod Refused

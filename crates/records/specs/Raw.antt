@@ -1,5 +1,6 @@
--- 01, Drawing sheets: where a sheet's numbers stand. A byte past the sheet's end reads 0 (no sheet that passes the check of its length is
--- read there).
+-- 01, Drawing sheets: where a sheet's numbers stand, and the kinds of records. A byte past the sheet's end reads 0 (no sheet that passes
+-- the
+-- check of its length is read there).
 use Prim.Native.Nat.{ℕ, _+_, _*_}
 use mathlib.Core.List.{List}
 use lib.ListN.{getD}
@@ -29,3 +30,16 @@ rawAt s at =
       number = byteAt s (at + 6);
       factor = byteAt s (at + 7);
     }
+
+-- "Kinds: 1 dot (four zeros); 2 line to x1, y1; 3 rectangle to any opposite corner x1, y1; 4 glyph (number, factor 1 to 16, two zeros)"
+abbrev pub dotKind : ℕ
+dotKind = 1
+
+abbrev pub lineKind : ℕ
+lineKind = 2
+
+abbrev pub rectangleKind : ℕ
+rectangleKind = 3
+
+abbrev pub glyphKind : ℕ
+glyphKind = 4

@@ -1,9 +1,10 @@
-// The records of a drawing sheet: their ten bytes, and the figure or the refusal that they stand for.
+// The records of a drawing sheet: their ten bytes, the figure or the refusal that they stand for, and whether it lies in the plane.
 use dots::Operation;
 ghost use mathlib.Core.Path.{_≡_};
 ghost use Prim.Native.Nat.{_<_};
 ghost use Rattle.records.specs.Raw.{byteAt, wordAt, recordPlace, rawAt};
-ghost use Rattle.records.specs.Decode.{formB, dotOf, lineOf, rectOf, glyphOf, decodedOf, decodedAt};
+ghost use Rattle.records.specs.Decode.{recordFormB, knownB, factorB, figureOf, decodedOf, decodedAt};
+ghost use Rattle.records.specs.Inside.{pointB, squareB, insideB, judged};
 ghost use Rattle.records.specs.Refused.{whyNumber, numberOf};
 
 // A dot of the plane.
@@ -50,6 +51,22 @@ pub struct Raw {
     pub factor: u8,
 }
 
+// Where a block stands in a sheet, and its records in it.
+const BLOCK_BYTES: u32 = 512;
+
+const RECORDS_AT: u32 = 4;
+
+const RECORD_BYTES: u32 = 10;
+
+// The kinds of records.
+const DOT: u8 = 1;
+
+const LINE: u8 = 2;
+
+const RECTANGLE: u8 = 3;
+
+const GLYPH: u8 = 4;
+
 // What there is: the plane's dots across and down, and how many glyphs.
 pub struct Room {
     pub across: u16,
@@ -82,7 +99,7 @@ pub fn word_at(s: &[u8], at: u32) -> u16
 fn raw_at(s: &[u8], block: u16, index: u16) -> Raw
     ensures { λ r. ⌜ r ≡ rawAt (now (s .entry)) (recordPlace block index) ⌝ }
 {
-    let at = 512 * block as u32 + 4 + 10 * index as u32;
+    let at = BLOCK_BYTES * block as u32 + RECORDS_AT + RECORD_BYTES * index as u32;
     let i = at as usize;
     Raw {
         kind: byte_at(s, i),
@@ -98,97 +115,114 @@ fn raw_at(s: &[u8], block: u16, index: u16) -> Raw
 
 // A record's form: its kind, its operation, and the bytes that are zero.
 fn formed(r: Raw) -> bool
-    ensures { λ q. ⌜ q ≡ formB r ⌝ }
+    ensures { λ q. ⌜ q ≡ recordFormB r ⌝ }
 {
-    (1 <= r.kind)
-        & (r.kind <= 4)
+    (DOT <= r.kind)
+        & (r.kind <= GLYPH)
         & (r.op <= 3)
-        & ((r.kind != 1) | ((r.x1 == 0) & (r.y1 == 0)))
-        & ((r.kind != 4) | (r.y1 == 0))
+        & ((r.kind != DOT) | ((r.x1 == 0) & (r.y1 == 0)))
+        & ((r.kind != GLYPH) | (r.y1 == 0))
 }
 
-fn dot(r: Raw, m: Room) -> Decoded
-    ensures { λ q. ⌜ q ≡ dotOf r m ⌝ }
+fn known(r: Raw, glyphs: u16) -> bool
+    ensures { λ q. ⌜ q ≡ knownB r glyphs ⌝ }
 {
-    if (r.x < m.across) & (r.y < m.down) {
-        return Decoded::Good(Record {
-            op: dots::operation_of(r.op),
-            figure: Figure::Dot(Point { x: r.x, y: r.y }),
-        });
-    }
-    Decoded::Refused(Refusal::Outside)
+    (r.kind != GLYPH) | ((r.number as u16) < glyphs)
 }
 
-fn line(r: Raw, m: Room) -> Decoded
-    ensures { λ q. ⌜ q ≡ lineOf r m ⌝ }
+fn factored(r: Raw) -> bool
+    ensures { λ q. ⌜ q ≡ factorB r ⌝ }
 {
-    if (r.x < m.across) & (r.y < m.down) & ((r.x1 < m.across) & (r.y1 < m.down)) {
-        return Decoded::Good(Record {
-            op: dots::operation_of(r.op),
-            figure: Figure::Line(Point { x: r.x, y: r.y }, Point { x: r.x1, y: r.y1 }),
-        });
-    }
-    Decoded::Refused(Refusal::Outside)
+    (r.kind != GLYPH) | ((1 <= r.factor) & (r.factor <= 16))
 }
 
-fn rectangle(r: Raw, m: Room) -> Decoded
-    ensures { λ q. ⌜ q ≡ rectOf r m ⌝ }
+fn figure_of(r: Raw) -> Figure
+    ensures { λ q. ⌜ q ≡ figureOf r ⌝ }
 {
-    if (r.x < m.across) & (r.y < m.down) & ((r.x1 < m.across) & (r.y1 < m.down)) {
-        return Decoded::Good(Record {
-            op: dots::operation_of(r.op),
-            figure: Figure::Rectangle(Point { x: r.x, y: r.y }, Point { x: r.x1, y: r.y1 }),
-        });
+    let a = Point { x: r.x, y: r.y };
+    let b = Point { x: r.x1, y: r.y1 };
+    if r.kind == DOT {
+        return Figure::Dot(a);
     }
-    Decoded::Refused(Refusal::Outside)
+    if r.kind == LINE {
+        return Figure::Line(a, b);
+    }
+    if r.kind == RECTANGLE {
+        return Figure::Rectangle(a, b);
+    }
+    Figure::Glyph {
+        at: a,
+        number: r.number,
+        factor: r.factor,
+    }
 }
 
-fn glyph(r: Raw, m: Room) -> Decoded
-    ensures { λ q. ⌜ q ≡ glyphOf r m ⌝ }
-{
-    if m.glyphs <= r.number as u16 {
-        return Decoded::Refused(Refusal::GlyphNumber);
-    }
-    if !((1 <= r.factor) & (r.factor <= 16)) {
-        return Decoded::Refused(Refusal::Factor);
-    }
-    let size = 8 * r.factor as u32;
-    if (r.x as u32 + size <= m.across as u32) & (r.y as u32 + size <= m.down as u32) {
-        return Decoded::Good(Record {
-            op: dots::operation_of(r.op),
-            figure: Figure::Glyph {
-                at: Point { x: r.x, y: r.y },
-                number: r.number,
-                factor: r.factor,
-            },
-        });
-    }
-    Decoded::Refused(Refusal::Outside)
-}
-
-fn decode(r: Raw, m: Room) -> Decoded
-    ensures { λ q. ⌜ q ≡ decodedOf r m ⌝ }
+fn decode(r: Raw, glyphs: u16) -> Decoded
+    ensures { λ q. ⌜ q ≡ decodedOf r glyphs ⌝ }
 {
     if !formed(r) {
         return Decoded::Refused(Refusal::Form);
     }
-    if r.kind == 1 {
-        return dot(r, m);
+    if !known(r, glyphs) {
+        return Decoded::Refused(Refusal::GlyphNumber);
     }
-    if r.kind == 2 {
-        return line(r, m);
+    if !factored(r) {
+        return Decoded::Refused(Refusal::Factor);
     }
-    if r.kind == 3 {
-        return rectangle(r, m);
-    }
-    glyph(r, m)
+    Decoded::Good(Record {
+        op: dots::operation_of(r.op),
+        figure: figure_of(r),
+    })
 }
 
-// What a record of a block stands for.
-pub fn decode_record(s: &[u8], block: u16, index: u16, m: Room) -> Decoded
-    ensures { λ q. ⌜ q ≡ decodedAt (now (s .entry)) (recordPlace block index) m ⌝ }
+// What a record of a block stands for, where there are so many glyphs.
+pub fn decode_record(s: &[u8], block: u16, index: u16, glyphs: u16) -> Decoded
+    ensures { λ q. ⌜ q ≡ decodedAt (now (s .entry)) (recordPlace block index) glyphs ⌝ }
 {
-    decode(raw_at(s, block, index), m)
+    decode(raw_at(s, block, index), glyphs)
+}
+
+fn point_in(m: Room, a: Point) -> bool
+    ensures { λ q. ⌜ q ≡ pointB m a ⌝ }
+{
+    (a.x < m.across) & (a.y < m.down)
+}
+
+fn square_in(m: Room, a: Point, g: u8) -> bool
+    ensures { λ q. ⌜ q ≡ squareB m a g ⌝ }
+{
+    let size = 8 * g as u32;
+    (a.x as u32 + size <= m.across as u32) & (a.y as u32 + size <= m.down as u32)
+}
+
+// Whether a figure lies in the plane.
+pub fn inside(m: Room, f: Figure) -> bool
+    ensures { λ q. ⌜ q ≡ insideB m f ⌝ }
+{
+    match f {
+        Figure::Dot(a) => point_in(m, a),
+        Figure::Line(a, b) => point_in(m, a) & point_in(m, b),
+        Figure::Rectangle(a, b) => point_in(m, a) & point_in(m, b),
+        Figure::Glyph {
+            at,
+            number: _,
+            factor,
+        } => square_in(m, at, factor),
+    }
+}
+
+// A figure that does not lie in the plane is refused.
+pub fn judge(m: Room, d: Decoded) -> Decoded
+    ensures { λ q. ⌜ q ≡ judged m d ⌝ }
+{
+    let Decoded::Good(r) = d else {
+        return d;
+    };
+    let f = r.figure;
+    if inside(m, f) {
+        return d;
+    }
+    Decoded::Refused(Refusal::Outside)
 }
 
 fn why_number(w: Refusal) -> u8

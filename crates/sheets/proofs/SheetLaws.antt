@@ -1,31 +1,27 @@
--- One law for each way out of `translate`, and what its answer 0 means. True because the checks of the code run in the definition's order,
--- so that each
--- way's tests decide each `orElse` of `answerOf`.
+-- One law for each way out of `sheet_refusal` and of `translate`, and what the answer 0 means. True because the checks of the code run in
+-- the definition's order, so that each way's tests decide each `orElse` of `sheetRefusal` and `answerOf`.
 use mathlib.Core.Path.{_≡_, refl, sym, ap, subst, _∙_}
-use mathlib.Core.Bool.{Bool, true, false, cond, _&&_, false≢true}
+use mathlib.Core.Bool.{Bool, true, false, cond, _&&_}
 use mathlib.Core.List.{List, _++_}
 use Prim.Native.Nat.{ℕ, _+_, _*_, _/_, _%_, _<_, _≤_}
 use native.Mathlib.Omega.{arith}
 use lib.Dec.{eqb, ltb, leb}
 use lib.ListN.{length, drop}
 use borrow.Author.Tests.{eq-eqb, ne-eqb, lt-ltb, le-ltb, ltb-false, leb-true, eqb-true}
-use Rattle.records.specs.declared.Room.{Room}
+use Rattle.records.proofs.TestLaws.{and-both}
 use Rattle.blocks.specs.declared.Answer.{Answer}
-use Rattle.blocks.specs.Answer.{answer, orElse}
+use Rattle.blocks.specs.Answer.{answer, refusalUnless, orElse}
 use Rattle.blocks.specs.Block.{blocksChecked}
 use Rattle.blocks.proofs.AnswerLaws.{or-first, or-next, or-zero}
 use Rattle.entries.specs.Entries.{placed}
 use Rattle.entries.proofs.PutLaws.{placed-is}
-use Rattle.sheets.specs.Slots.{sized, figures, recordsChecked, translation}
-use Rattle.sheets.specs.Sheet.{planeB, tableB, lengthB, frameRefusal, roomOf, figuresOf, ended, answerOf, Outcome, outcome, written}
-use Rattle.sheets.specs.Sheet.{translateDef}
+use Rattle.sheets.specs.Slots.{sized, recordsChecked, translation}
+use Rattle.sheets.specs.Sheet.{planeB, tableB, sheetLengthB, planeRefusal, tableRefusal, lengthRefusal, frameRefusal, roomOf}
+use Rattle.sheets.specs.Sheet.{figuresOf}
+use Rattle.sheets.specs.Sheet.{sheetRefusal, ended, answerOf, Outcome, outcome, outputOf, translateDef}
 use Rattle.sheets.proofs.SlotLaws.{translation-length}
 
 -- ---- the plane, the table and the length are right where nothing is refused
-pub and-both : (a b : Bool) → (a && b) ≡ true → (a ≡ true) × (b ≡ true)
-and-both true b e = (refl, e)
-and-both false b e = absurd (false≢true e)
-
 pub record Framed (p h g l : ℕ) : Type 0 where
   pub wide : p < 256
   pub tall : h ≤ 4096
@@ -34,16 +30,24 @@ pub record Framed (p h g l : ℕ) : Type 0 where
   pub whole : l % 512 ≡ 0
   pub blocks : l ≤ 8192
 
-pub three : (a b c : Bool) → _≡_ {A = ℕ} (cond a (cond b (cond c 0 13) 12) 11) 0 → (a ≡ true) × (b ≡ true) × (c ≡ true)
-three true true true e = (refl, refl, refl)
-three true true false e = absurd (omega arith)
-three true false c e = absurd (omega arith)
-three false b c e = absurd (omega arith)
+unless-zero : (t : Bool) (n : ℕ) → 0 < n → refusalUnless t n .number ≡ 0 → t ≡ true
+unless-zero true n k e = refl
+unless-zero false n k e = absurd (omega arith)
 
-pub framed : {f : ℕ} (p h g l : ℕ) → f ≡ frameRefusal p h g l → f ≡ 0 → Framed p h g l
+pub three : (p h g l : ℕ) → frameRefusal p h g l .number ≡ 0 → (planeB p h ≡ true) × (tableB g ≡ true) × (sheetLengthB l ≡ true)
 unfolding frameRefusal
+three p h g l e =
+    let u = or-zero (planeRefusal p h) (orElse (tableRefusal g) (lengthRefusal l)) e in
+    let v = or-zero (tableRefusal g) (lengthRefusal l) (sym (ap (λ (x : Answer). x .number) (u .1)) ∙ e) in
+    let w : lengthRefusal l .number ≡ 0 = sym (ap (λ (x : Answer). x .number) (u .1 ∙ v .1)) ∙ e in (
+      unless-zero (planeB p h) 11 (omega arith) (u .0),
+      unless-zero (tableB g) 12 (omega arith) (v .0),
+      unless-zero (sheetLengthB l) 13 (omega arith) w,
+    )
+
+pub framed : (p h g l : ℕ) {f : Answer} → f ≡ frameRefusal p h g l → f .number ≡ 0 → Framed p h g l
 framed p h g l e z =
-    let w = three (planeB p h) (tableB g) (lengthB l) (sym e ∙ z) in
+    let w = three p h g l (sym (ap (λ (x : Answer). x .number) e) ∙ z) in
     let a = and-both (leb 1 p && leb p 255 && leb 1 h && leb h 4096) (leb (p * h) 262144) (w .0) in
     let b = and-both (leb 1 p && leb p 255 && leb 1 h) (leb h 4096) (a .0) in
     let c = and-both (leb 1 p && leb p 255) (leb 1 h) (b .0) in
@@ -60,84 +64,55 @@ framed p h g l e z =
       blocks = omega (arith, leb-true (l / 512) 16 (u .1), eqb-true (l % 512) 0 (v .0));
     }
 
--- ---- refusals in their order
--- where a refusal is met the last answer has no part in it
-or-refused : (b r x y : Answer) → x .number ≡ 0 → (orElse b (orElse r x) .number ≡ 0 → ⊥) → orElse b (orElse r x) ≡ orElse b (orElse r y)
-or-refused b r x y e z = go (eqb (b .number) 0) (eqb (r .number) 0) z
-  where
-    go : (t u : Bool) → (cond t (cond u x r) b .number ≡ 0 → ⊥) → cond t (cond u x r) b ≡ cond t (cond u y r) b
-    go true true k = absurd (k e)
-    go true false k = refl
-    go false u k = refl
-
 -- ---- the ways out
 placed-first : (o e : List ℕ) → length e ≤ length o → placed o 0 e ≡ e ++ drop (length e) o
 placed-first o e h = let z : 0 + length e ≡ length e = omega arith in placed-is o 0 e (omega arith) ∙ ap (λ (n : ℕ). e ++ drop n o) z
 
+module _ (s : List ℕ) (p h : ℕ) (t : List ℕ) where
+  abbrev frame : Answer
+  frame = frameRefusal p h (length t) (length s)
+
+  -- the frame is right where the sheet is not refused
+  pub sheet-framed : {a : Answer} → a ≡ sheetRefusal s p h t → a .number ≡ 0 → Framed p h (length t) (length s)
+  unfolding sheetRefusal
+  sheet-framed e z = framed p h (length t) (length s) refl (or-zero frame _ (sym (ap (λ (x : Answer). x .number) e) ∙ z) .0)
+
+  -- the frame, then the blocks and the records
+  pub way-frame : {f : Answer} → f ≡ frame → (f .number ≡ 0 → ⊥) → f ≡ sheetRefusal s p h t
+  unfolding sheetRefusal
+  way-frame e z = e ∙ sym (or-first frame _ (rw e at z))
+
+  pub way-checked : {f b r c : Answer} → f ≡ frame → f .number ≡ 0 → b ≡ blocksChecked s (length s / 512)
+      → r ≡ recordsChecked s (roomOf p h (length t)) (length s / 512) → c ≡ orElse b r → c ≡ sheetRefusal s p h t
+  unfolding sheetRefusal
+  way-checked e z be re ce = rw (← be, ← re) ce ∙ sym (or-next frame _ (sym (ap (λ (x : Answer). x .number) e) ∙ z))
+
 module _ (s : List ℕ) (p h : ℕ) (t o : List ℕ) where
-  abbrev n : ℕ
-  n = length s / 512
-
-  abbrev m : Room
-  m = roomOf p h (length t)
-
   abbrev all : List ℕ
   all = translation t p (figuresOf s p h t)
 
-  abbrev last : Answer
-  last = ended (length all) (length o)
+  module _ {a : Answer} (e : a ≡ sheetRefusal s p h t) where
+    pub way-refused : (a .number ≡ 0 → ⊥) → outcome a o ≡ translateDef s p h t o
+    unfolding translateDef answerOf
+    way-refused z = rw (← e, ne-eqb (a .number) 0 z, ne-eqb (a .number) 0 z)
 
-  refused : {a : Answer} → a ≡ answerOf s p h t (length o) → (a .number ≡ 0 → ⊥) → outcome a o ≡ translateDef s p h t o
-  unfolding translateDef
-  refused {a} e z = rw (← e, ne-eqb (a .number) 0 z)
+    module _ (z : a .number ≡ 0) {need : ℕ} (q : need ≡ 2 + sized (figuresOf s p h t)) where
+      needed : need ≡ length all
+      needed = q ∙ sym (translation-length t p (figuresOf s p h t))
 
-  done : {a : Answer} {o′ : List ℕ} → a ≡ answerOf s p h t (length o) → a .number ≡ 0 → o′ ≡ all ++ drop (length all) o
-      → outcome a o′ ≡ translateDef s p h t o
-  unfolding translateDef
-  done {a} e z q = rw (← e, eq-eqb (a .number) 0 z, q)
-
-  module _ {f : ℕ} (fe : f ≡ frameRefusal p h (length t) (length s)) where
-    pub way-frame : (f ≡ 0 → ⊥) → outcome (answer f 0 0) o ≡ translateDef s p h t o
-    unfolding answerOf
-    way-frame z =
-        refused (sym (or-first (answer (frameRefusal p h (length t) (length s)) 0 0) _ (rw fe at z)
-        ∙ ap (λ (x : ℕ). answer x 0 0) (sym fe))) z
-
-    module _ (fz : f ≡ 0) {b r c : Answer} (be : b ≡ blocksChecked s n)
-        (re : r ≡ orElse (recordsChecked s m n) (answer 0 (2 + sized (figures s m n)) 0))
-        (ce : c ≡ orElse b r) where
-      past : answerOf s p h t (length o) ≡ orElse (blocksChecked s n) (orElse (recordsChecked s m n) last)
+      on : answerOf s p h t (length o) ≡ ended (length all) (length o)
       unfolding answerOf
-      past = or-next (answer (frameRefusal p h (length t) (length s)) 0 0) _ (sym fe ∙ fz)
+      on = or-next (sheetRefusal s p h t) _ (sym (ap (λ (x : Answer). x .number) e) ∙ z)
 
-      met : c ≡ orElse (blocksChecked s n) (orElse (recordsChecked s m n) (answer 0 (2 + sized (figures s m n)) 0))
-      met = rw (← be, ← re) ce
+      pub way-short : length o < need → outcome (answer 20 need 0) o ≡ translateDef s p h t o
+      unfolding translateDef
+      way-short u = rw (on, ← needed, lt-ltb (length o) need u)
 
-      pub way-checked : (c .number ≡ 0 → ⊥) → outcome c o ≡ translateDef s p h t o
-      way-checked z =
-          refused (met ∙ or-refused (blocksChecked s n) (recordsChecked s m n) (answer 0 (2 + sized (figures s m n)) 0) last refl
-          (rw met at z) ∙ sym past) z
-
-      module _ (cz : c .number ≡ 0) where
-        clear : (blocksChecked s n .number ≡ 0) × (recordsChecked s m n .number ≡ 0) × (c ≡ answer 0 (2 + sized (figures s m n)) 0)
-        clear =
-            let u = or-zero (blocksChecked s n) _ (sym (ap (λ (x : Answer). x .number) met) ∙ cz) in
-            let v = or-zero (recordsChecked s m n) _ (sym (ap (λ (x : Answer). x .number) (met ∙ u .1)) ∙ cz) in
-            (u .0, v .0, met ∙ u .1 ∙ v .1)
-
-        pub needed : c .first ≡ length all
-        needed = ap (λ (x : Answer). x .first) (clear .2) ∙ sym (translation-length t p (figures s m n))
-
-        on : answerOf s p h t (length o) ≡ last
-        on = past ∙ or-next (blocksChecked s n) _ (clear .0) ∙ or-next (recordsChecked s m n) _ (clear .1)
-
-        pub way-short : length o < c .first → outcome (answer 20 (c .first) 0) o ≡ translateDef s p h t o
-        way-short u = refused (sym (on ∙ rw (← needed, lt-ltb _ _ u))) (λ e. omega arith)
-
-        pub way-done : {o′ : List ℕ} → c .first ≤ length o → o′ ≡ placed o 0 all → outcome c o′ ≡ translateDef s p h t o
-        way-done u q =
-            let e : c ≡ answer 0 (length all) 0 = clear .2 ∙ ap (λ (x : ℕ). answer 0 x 0) (sym (translation-length t p (figures s m n))) in
-            done (e ∙ sym (on ∙ rw (← needed, le-ltb _ _ u))) cz (q ∙ placed-first o all (subst (λ (x : ℕ). x ≤ length o) needed u))
+      pub way-done : {o′ : List ℕ} → need ≤ length o → o′ ≡ placed o 0 all → outcome (answer 0 need 0) o′ ≡ translateDef s p h t o
+      unfolding translateDef
+      way-done u k =
+          rw (on, ← needed, le-ltb (length o) need u)
+          (ap (outcome (answer 0 need 0)) (k ∙ placed-first o all (subst (λ (x : ℕ). x ≤ length o) needed u) ∙ rw (← needed)))
 
 -- ---- what the answer 0 means
 ended-zero : (e l : ℕ) → ended e l .number ≡ 0 → (e ≤ l) × (ended e l ≡ answer 0 e 0)
@@ -149,10 +124,8 @@ ended-zero e l z = go (ltb l e) refl z
     go false q k = (ltb-false l e q, refl)
 
 pub record Translated (s : List ℕ) (p h : ℕ) (t o : List ℕ) (a : Answer) (o′ : List ℕ) : Type 0 where
-  pub framing : frameRefusal p h (length t) (length s) ≡ 0
+  pub accepted : sheetRefusal s p h t .number ≡ 0
   pub frame : Framed p h (length t) (length s)
-  pub blocks : blocksChecked s (length s / 512) .number ≡ 0
-  pub records : recordsChecked s (roomOf p h (length t)) (length s / 512) .number ≡ 0
   pub first : a .first ≡ 2 + sized (figuresOf s p h t)
   pub fits : a .first ≤ length o
   pub out : o′ ≡ placed o 0 (translation t p (figuresOf s p h t))
@@ -164,22 +137,16 @@ unfolding translateDef answerOf
 translated-means s p h t o {a} e z =
     let ae : a ≡ answerOf s p h t (length o) = ap (λ (x : Outcome). x .answer) e in
     let nz : answerOf s p h t (length o) .number ≡ 0 = sym (ap (λ (x : Answer). x .number) ae) ∙ z in
-    let u = or-zero (answer (frameRefusal p h (length t) (length s)) 0 0) _ nz in
-    let v = or-zero (blocksChecked s (length s / 512)) _ (sym (ap (λ (x : Answer). x .number) (u .1)) ∙ nz) in
-    let w = or-zero (recordsChecked s (roomOf p h (length t)) (length s / 512)) _ (sym (ap (λ (x : Answer). x .number) (u .1 ∙ v .1))
-    ∙ nz) in
-    let k = ended-zero (length (translation t p (figuresOf s p h t))) (length o)
-    (sym (ap (λ (x : Answer). x .number) (u .1 ∙ v .1 ∙ w .1)) ∙ nz) in
-    let r : a .first ≡ length (translation t p (figuresOf s p h t)) = ap (λ (x : Answer). x .first) (ae ∙ u .1 ∙ v .1 ∙ w .1 ∙ k .1) in
+    let u = or-zero (sheetRefusal s p h t) _ nz in
+    let k = ended-zero (length (translation t p (figuresOf s p h t))) (length o) (sym (ap (λ (x : Answer). x .number) (u .1)) ∙ nz) in
+    let r : a .first ≡ length (translation t p (figuresOf s p h t)) = ap (λ (x : Answer). x .first) (ae ∙ u .1 ∙ k .1) in
     record {
-      framing = u .0;
-      frame = framed p h (length t) (length s) refl (u .0);
-      blocks = v .0;
-      records = w .0;
+      accepted = u .0;
+      frame = sheet-framed s p h t refl (u .0);
       first = r ∙ translation-length t p (figuresOf s p h t);
       fits = subst (λ (x : ℕ). x ≤ length o) (sym r) (k .0);
       out = ap (λ (x : Outcome). x .out) e
-          ∙ ap (λ (b : Bool). written b o (translation t p (figuresOf s p h t))) (eq-eqb _ 0 nz)
+          ∙ ap (λ (b : Bool). outputOf b o (translation t p (figuresOf s p h t))) (eq-eqb _ 0 nz)
           ∙ sym (placed-first o (translation t p (figuresOf s p h t)) (k .0));
     }
 

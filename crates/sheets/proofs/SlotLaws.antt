@@ -1,7 +1,6 @@
--- One law for each way out of a slot, and for each turn of the two passes over the slots: what is left to do, with what is done, is the
--- whole. True because
--- each definition takes one slot where a loop takes one turn.
-use mathlib.Core.Path.{_≡_, refl, sym, ap, _∙_}
+-- One law for each way out of a slot, and for each turn of the passes that count and write the slots' entries: what is left to do, with
+-- what is done, is the whole. True because each definition takes one slot where a loop takes one turn.
+use mathlib.Core.Path.{_≡_, refl, ap}
 use mathlib.Core.Bool.{Bool, true, false, cond}
 use mathlib.Core.List.{List, [], _∷_, _++_, append-assoc, append-nil}
 use Prim.Native.Nat.{ℕ, zero, suc, _+_, _-_, _*_, _/_, _%_, _<_, _≤_}
@@ -14,16 +13,13 @@ use Rattle.records.specs.declared.Figure.{Figure}
 use Rattle.records.specs.declared.Figure.the-variants.{Dot, Line, Rectangle, Glyph}
 use Rattle.records.specs.declared.Decoded.{Decoded}
 use Rattle.records.specs.declared.Decoded.the-variants.{Good, Refused}
-use Rattle.records.specs.Decode.{decodedAt}
 use Rattle.records.specs.Refused.{numberOf}
-use Rattle.blocks.specs.declared.Answer.{Answer}
-use Rattle.blocks.specs.Answer.{answer, orElse, firstFrom}
-use Rattle.blocks.proofs.AnswerLaws.{or-first, first-start, first-stop, first-go-on, first-end}
+use Rattle.blocks.specs.Answer.{answer, firstFrom}
+use Rattle.blocks.proofs.AnswerLaws.{first-stop}
 use Rattle.entries.specs.Entries.{placed, plain, figureSize, sizeOf, entriesOf}
 use Rattle.entries.proofs.PutLaws.{entries-size, placed-append}
-use Rattle.sheets.specs.declared.Measured.{Measured}
-use Rattle.sheets.specs.Slots.{placeOf, usedB, slotRefusal, slotAnswer, recordsChecked, figuresIn, slotFigures, figuresFrom, figures}
-use Rattle.sheets.specs.Slots.{translated, translation, sized, measured}
+use Rattle.sheets.specs.Slots.{usedB, slotDecoded, slotRefusal, slotAnswer, figuresIn, slotFigures, figuresFrom, figures}
+use Rattle.sheets.specs.Slots.{translated, translation, sized}
 
 -- ---- one slot
 module _ (s : List ℕ) (m : Room) (k : ℕ) where
@@ -31,27 +27,35 @@ module _ (s : List ℕ) (m : Room) (k : ℕ) where
   unfolding slotFigures
   none u = rw u
 
-  pub bad : {d : Decoded} {w : Refusal} → usedB s k ≡ true → d ≡ decodedAt s (placeOf k) m → d ≡ Refused w → slotFigures s m k ≡ []
+  pub bad : {d : Decoded} {w : Refusal} → usedB s k ≡ true → d ≡ slotDecoded s m k → d ≡ Refused w → slotFigures s m k ≡ []
   unfolding slotFigures
   bad u e g = rw (u, ← e, g)
 
-  pub good : {d : Decoded} {r : Record} → usedB s k ≡ true → d ≡ decodedAt s (placeOf k) m → d ≡ Good r → slotFigures s m k ≡ r ∷ []
+  pub good : {d : Decoded} {r : Record} → usedB s k ≡ true → d ≡ slotDecoded s m k → d ≡ Good r → slotFigures s m k ≡ r ∷ []
   unfolding slotFigures
   good u e g = rw (u, ← e, g)
 
-  pub measure-none : usedB s k ≡ false → record { number = 0; entries = 0 } ≡ measured s m k
-  unfolding slotRefusal sized
-  measure-none u = rw (none u, u)
+  pub not-refused : usedB s k ≡ false → 0 ≡ slotRefusal s m k
+  unfolding slotRefusal
+  not-refused u = rw u
 
-  pub measure-bad : {d : Decoded} {w : Refusal} {x : ℕ} → usedB s k ≡ true → d ≡ decodedAt s (placeOf k) m → d ≡ Refused w → x ≡ numberOf d
-      → record { number = x; entries = 0 } ≡ measured s m k
-  unfolding slotRefusal sized
-  measure-bad u e g q = rw (bad u e g, u, ← e, q)
+  pub number-is : {d : Decoded} {x : ℕ} → usedB s k ≡ true → d ≡ slotDecoded s m k → x ≡ numberOf d → x ≡ slotRefusal s m k
+  unfolding slotRefusal
+  number-is u e q = rw (u, ← e, q)
 
-  pub measure-good : {d : Decoded} {r : Record} {q : ℕ} → usedB s k ≡ true → d ≡ decodedAt s (placeOf k) m → d ≡ Good r → q ≡ sizeOf r
-      → record { number = 0; entries = q } ≡ measured s m k
-  unfolding slotRefusal sized
-  measure-good {r = r} u e g q = let z : sizeOf r + 0 ≡ sizeOf r = omega arith in rw (good u e g, u, ← e, g, q, z)
+-- the first slot that is refused
+pub records-stop : (s : List ℕ) (m : Room) (n k : ℕ) {x : ℕ} → k < 50 * n → x ≡ slotRefusal s m k → (x ≡ 0 → ⊥)
+    → answer x (k / 50) (k % 50) ≡ firstFrom (slotAnswer s m) (50 * n - k) k
+records-stop s m n k h p z = first-stop (slotAnswer s m) (50 * n) k h (ap (λ (y : ℕ). answer y (k / 50) (k % 50)) p) z
+
+-- a slot's size
+pub size-none : {f : List Record} → f ≡ [] → 0 ≡ sized f
+unfolding sized
+size-none e = rw e
+
+pub size-one : {f : List Record} {r : Record} {q : ℕ} → f ≡ r ∷ [] → q ≡ sizeOf r → q ≡ sized f
+unfolding sized
+size-one {r = r} e z = rw e (omega (arith, z))
 
 size-small : (f : Figure) → figureSize f ≤ 21
 size-small (Dot a) = omega arith
@@ -68,7 +72,7 @@ small false d = omega arith
 -- a slot takes at most 21 entries
 pub slot-small : (s : List ℕ) (m : Room) (k : ℕ) {x : ℕ} → x ≡ sized (slotFigures s m k) → x ≤ 21
 unfolding slotFigures
-slot-small s m k e = rw e (small (usedB s k) (decodedAt s (placeOf k) m))
+slot-small s m k e = rw e (small (usedB s k) (slotDecoded s m k))
 
 -- ---- lists of figures
 pub sized-append : (a b : List Record) → sized (a ++ b) ≡ sized a + sized b
@@ -90,60 +94,36 @@ pub translation-length : (t : List ℕ) (p : ℕ) (a : List Record) → length (
 unfolding translation
 translation-length t p a = omega (arith, translated-length t p a)
 
--- ---- the first pass
--- the records' answer with the entries they take
-abbrev counted : List ℕ → Room → ℕ → Answer
-counted s m n = orElse (recordsChecked s m n) (answer 0 (2 + sized (figures s m n)) 0)
-
+-- ---- the entries are counted
 module _ (s : List ℕ) (m : Room) (n k : ℕ) where
   figures-turn : k < 50 * n → figuresFrom s m (50 * n - k) k ≡ slotFigures s m k ++ figuresFrom s m (50 * n - (k + 1)) (k + 1)
   unfolding figuresFrom
   figures-turn h = let e : 50 * n - k ≡ suc (50 * n - (k + 1)) = omega arith in rw e
 
-  pub records-stop : {x : Measured} → k < 50 * n → x ≡ measured s m k → (x .number ≡ 0 → ⊥)
-      → recordsChecked s m n ≡ firstFrom (slotAnswer s m) (50 * n - k) k → answer (x .number) (k / 50) (k % 50) ≡ counted s m n
-  records-stop {x} h q z i =
-      let a : answer (x .number) (k / 50) (k % 50) ≡ slotAnswer s m k = ap (λ (y : Measured). answer (y .number) (k / 50) (k % 50)) q in
-      let e : answer (x .number) (k / 50) (k % 50) ≡ recordsChecked s m n = first-stop (slotAnswer s m) (50 * n) k h a z ∙ sym i in
-      e ∙ sym (or-first (recordsChecked s m n) _ (λ w. z (ap (λ (y : Answer). y .number) e ∙ w)))
-
-  pub records-go-on : {x : Measured} → k < 50 * n → x ≡ measured s m k → x .number ≡ 0
-      → firstFrom (slotAnswer s m) (50 * n - k) k ≡ firstFrom (slotAnswer s m) (50 * n - (k + 1)) (k + 1)
-  records-go-on h q z = first-go-on (slotAnswer s m) (50 * n) k h (sym (ap (λ (y : Measured). y .number) q) ∙ z)
-
-  pub need-goes-on : {x : Measured} (need : ℕ) → k < 50 * n → x ≡ measured s m k
-      → need + sized (figuresFrom s m (50 * n - k) k) ≡ need + x .entries + sized (figuresFrom s m (50 * n - (k + 1)) (k + 1))
-  need-goes-on need h q = rw (figures-turn h, sized-append, q) (omega arith)
-
-  pub records-end : {need : ℕ} → 50 * n ≤ k → recordsChecked s m n ≡ firstFrom (slotAnswer s m) (50 * n - k) k
-      → 2 + sized (figures s m n) ≡ need + sized (figuresFrom s m (50 * n - k) k) → answer 0 need 0 ≡ counted s m n
-  unfolding figuresFrom sized
-  records-end {need} h i j =
-      let e : 50 * n - k ≡ zero = omega arith in
-      let d : 2 + sized (figures s m n) ≡ need = rw e at j ∙ omega arith in
-      let r : recordsChecked s m n ≡ answer 0 0 0 = i ∙ sym (first-end (slotAnswer s m) (50 * n) k h) in
-      rw (r, d)
-
-  pub records-start : recordsChecked s m n ≡ firstFrom (slotAnswer s m) (50 * n - 0) 0
-  unfolding recordsChecked
-  records-start = first-start (slotAnswer s m) (50 * n)
-
   pub figures-start : figures s m n ≡ figuresFrom s m (50 * n - 0) 0
   unfolding figures
   figures-start = let e : 50 * n - 0 ≡ 50 * n = omega arith in rw e
 
+  pub need-goes-on : {x : ℕ} (need : ℕ) → k < 50 * n → x ≡ sized (slotFigures s m k)
+      → need + sized (figuresFrom s m (50 * n - k) k) ≡ need + x + sized (figuresFrom s m (50 * n - (k + 1)) (k + 1))
+  need-goes-on need h q = rw (figures-turn h, sized-append, q) (omega arith)
+
+  pub need-ends : (need : ℕ) → 50 * n ≤ k → need + sized (figuresFrom s m (50 * n - k) k) ≡ need
+  unfolding figuresFrom sized
+  need-ends need h = let e : 50 * n - k ≡ zero = omega arith in rw e (omega arith)
+
 -- ---- a slot is put
 module _ (t : List ℕ) (p : ℕ) (o : List ℕ) (at : ℕ) where
   pub put-none : {f : List Record} → f ≡ [] → (0 ≡ sized f) × (o ≡ placed o at (translated t p f))
-  unfolding translated placed sized
-  put-none e = rw e (refl, refl)
+  unfolding translated placed
+  put-none e = (size-none e, rw e)
 
   pub put-one : {f : List Record} {r : Record} {q : ℕ} {o′ : List ℕ} → f ≡ r ∷ [] → q ≡ sizeOf r → o′ ≡ placed o at (entriesOf t p r)
       → (q ≡ sized f) × (o′ ≡ placed o at (translated t p f))
-  unfolding translated sized
-  put-one {r = r} e z w = rw (e, append-nil (entriesOf t p r)) (omega (arith, z), w)
+  unfolding translated
+  put-one {r = r} e z w = (size-one e z, rw (e, append-nil (entriesOf t p r)) w)
 
--- ---- the second pass
+-- ---- the entries are written
 module _ (s : List ℕ) (m : Room) (n k : ℕ) (t : List ℕ) (p : ℕ) where
   abbrev left : List Record
   left = figuresFrom s m (50 * n - k) k

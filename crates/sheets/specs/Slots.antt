@@ -10,12 +10,12 @@ use Rattle.records.specs.declared.Decoded.{Decoded}
 use Rattle.records.specs.declared.Decoded.the-variants.{Good, Refused}
 use Rattle.records.specs.Raw.{recordPlace}
 use Rattle.records.specs.Decode.{decodedAt}
+use Rattle.records.specs.Inside.{judged}
 use Rattle.records.specs.Refused.{numberOf}
 use Rattle.blocks.specs.declared.Answer.{Answer}
 use Rattle.blocks.specs.Answer.{answer, firstFrom}
 use Rattle.blocks.specs.Block.{countOf}
 use Rattle.entries.specs.Entries.{sizeOf, entriesOf}
-use Rattle.sheets.specs.declared.Measured.{Measured}
 
 abbrev pub placeOf : ℕ → ℕ
 placeOf k = recordPlace (k / 50) (k % 50)
@@ -24,9 +24,13 @@ placeOf k = recordPlace (k / 50) (k % 50)
 abbrev pub usedB : List ℕ → ℕ → Bool
 usedB s k = ltb (k % 50) (countOf s (k / 50))
 
+-- what a slot's record stands for: 16 to 18 by its bytes, then 19 in the plane
+abbrev pub slotDecoded : List ℕ → Room → ℕ → Decoded
+slotDecoded s m k = judged m (decodedAt s (placeOf k) (m .glyphs))
+
 -- the number of a record's refusal, 0 for none
 unfoldable pub slotRefusal : List ℕ → Room → ℕ → ℕ
-slotRefusal s m k = cond (usedB s k) (numberOf (decodedAt s (placeOf k) m)) 0
+slotRefusal s m k = cond (usedB s k) (numberOf (slotDecoded s m k)) 0
 
 -- "16, 17, 18, 19 | .. | block, record"
 abbrev pub slotAnswer : List ℕ → Room → ℕ → Answer
@@ -42,7 +46,7 @@ figuresIn (Good r) = r ∷ []
 figuresIn (Refused w) = []
 
 unfoldable pub slotFigures : List ℕ → Room → ℕ → List Record
-slotFigures s m k = cond (usedB s k) (figuresIn (decodedAt s (placeOf k) m)) []
+slotFigures s m k = cond (usedB s k) (figuresIn (slotDecoded s m k)) []
 
 unfoldable pub figuresFrom : List ℕ → Room → ℕ → ℕ → List Record
 figuresFrom s m zero k = []
@@ -64,6 +68,3 @@ translation t p l = 0x147 ∷ p ∷ translated t p l
 unfoldable pub sized : List Record → ℕ
 sized [] = 0
 sized (r ∷ l) = sizeOf r + sized l
-
-abbrev pub measured : List ℕ → Room → ℕ → Measured
-measured s m k = record { number = slotRefusal s m k; entries = sized (slotFigures s m k) }

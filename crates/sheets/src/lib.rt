@@ -1,73 +1,110 @@
-// The translator of drawing sheets: one pass to check, one to write.
+// The translator of drawing sheets: a pass to check, one to count the entries, one to write them.
 use blocks::Answer;
 use records::Decoded;
 use records::Room;
 ghost use mathlib.Core.Path.{_≡_};
-ghost use Prim.Native.Nat.{_+_};
-ghost use Rattle.blocks.specs.Answer.{answer, orElse};
+ghost use Prim.Native.Nat.{_+_, _<_, _≤_};
 ghost use Rattle.entries.specs.Entries.{placed};
-ghost use Rattle.sheets.specs.Slots.{usedB, measured, slotFigures, figures, sized, translated, translation, recordsChecked};
-ghost use Rattle.sheets.specs.Sheet.{planeB, frameRefusal, outcome, translateDef};
+ghost use Rattle.sheets.specs.Slots.{usedB, slotDecoded, slotRefusal, slotFigures, figures, sized, translated, translation};
+ghost use Rattle.sheets.specs.Slots.{recordsChecked};
+ghost use Rattle.sheets.specs.Sheet.{planeB, tableB, sheetLengthB, planeRefusal, tableRefusal, lengthRefusal, frameRefusal};
+ghost use Rattle.sheets.specs.Sheet.{roomOf, sheetRefusal, outcome, translateDef};
 
-// A record's number of refusal, and how many entries it takes.
-pub struct Measured {
-    pub number: u8,
-    pub entries: u32,
-}
+// A block's bytes and its records; a glyph's bytes.
+const BLOCK_BYTES: usize = 512;
+
+const RECORDS: u16 = 50;
+
+const GLYPH_BYTES: usize = 8;
+
+// The command PITCH as an entry.
+const PITCH: u16 = 0x147;
+
+// The numbers of refusal: the plane, the glyph table, the sheet's length, an output too short.
+const PLANE: u8 = 11;
+
+const TABLE: u8 = 12;
+
+const LENGTH: u8 = 13;
+
+const SHORT: u8 = 20;
 
 // Slot k is record k % 50 of block k / 50: whether the block's count reaches it.
 fn used(s: &[u8], k: u16) -> bool
     ensures { λ r. ⌜ r ≡ usedB (now (s .entry)) k ⌝ }
 {
-    let count = records::byte_at(s, 512 * (k / 50) as usize + 2);
-    k % 50 < count as u16
+    let count = records::byte_at(s, BLOCK_BYTES * (k / RECORDS) as usize + 2);
+    k % RECORDS < count as u16
 }
 
-fn measure(s: &[u8], k: u16, m: Room) -> Measured
-    ensures { λ r. ⌜ r ≡ measured (now (s .entry)) m k ⌝ }
+// What a slot's record stands for.
+fn slot_decoded(s: &[u8], k: u16, m: Room) -> Decoded
+    ensures { λ r. ⌜ r ≡ slotDecoded (now (s .entry)) m k ⌝ }
+{
+    records::judge(
+        m,
+        records::decode_record(s, k / RECORDS, k % RECORDS, m.glyphs),
+    )
+}
+
+// The number of a record's refusal, 0 for none.
+fn slot_refusal(s: &[u8], k: u16, m: Room) -> u8
+    ensures { λ r. ⌜ r ≡ slotRefusal (now (s .entry)) m k ⌝ }
 {
     if !used(s, k) {
-        return Measured {
-            number: 0,
-            entries: 0,
-        };
+        return 0;
     }
-    let d = records::decode_record(s, k / 50, k % 50, m);
-    let Decoded::Good(r) = d else {
-        return Measured {
-            number: records::number_of(d),
-            entries: 0,
-        };
-    };
-    Measured {
-        number: 0,
-        entries: entries::size_of(r),
-    }
+    records::number_of(slot_decoded(s, k, m))
 }
 
-// The first record that is refused, or how many entries there are.
+// The first record that is refused.
 fn check_records(s: &[u8], n: u8, m: Room) -> Answer
-    ensures { λ r. ⌜ r ≡ orElse (recordsChecked (now (s .entry)) m n) (answer 0 (2 + sized (figures (now (s .entry)) m n)) 0) ⌝ }
+    ensures { λ r. ⌜ r ≡ recordsChecked (now (s .entry)) m n ⌝ }
 {
-    let mut need: u32 = 2;
     let mut k: u16 = 0;
-    while k < 50 * n as u16 {
-        let x = measure(s, k, m);
-        if x.number != 0 {
+    while k < RECORDS * n as u16 {
+        let x = slot_refusal(s, k, m);
+        if x != 0 {
             return Answer {
-                number: x.number,
-                first: (k / 50) as u32,
-                second: (k % 50) as u32,
+                number: x,
+                first: (k / RECORDS) as u32,
+                second: (k % RECORDS) as u32,
             };
         }
-        need += x.entries;
         k += 1;
     }
     Answer {
         number: 0,
-        first: need,
+        first: 0,
         second: 0,
     }
+}
+
+// How many entries a slot takes.
+fn slot_size(s: &[u8], k: u16, m: Room) -> u32
+    ensures { λ r. ⌜ r ≡ sized (slotFigures (now (s .entry)) m k) ⌝ }
+{
+    if !used(s, k) {
+        return 0;
+    }
+    let d = slot_decoded(s, k, m);
+    let Decoded::Good(r) = d else {
+        return 0;
+    };
+    entries::size_of(r)
+}
+
+// How many entries PITCH P and the figures take.
+fn entries_needed(s: &[u8], n: u8, m: Room) -> u32
+    ensures { λ r. ⌜ r ≡ 2 + sized (figures (now (s .entry)) m n) ⌝ }
+{
+    let mut need: u32 = 2;
+    let mut k: u16 = 0;
+    while k < RECORDS * n as u16 {
+        need += slot_size(s, k, m);
+        k += 1;
+    }
+    need
 }
 
 // The entries of slot k go into out from at on; how many they are.
@@ -78,7 +115,7 @@ fn put_slot(out: &mut [u16], at: u32, s: &[u8], k: u16, m: Room, t: &[u8], p: u8
     if !used(s, k) {
         return 0;
     }
-    let d = records::decode_record(s, k / 50, k % 50, m);
+    let d = slot_decoded(s, k, m);
     let Decoded::Good(r) = d else {
         return 0;
     };
@@ -90,16 +127,16 @@ fn put_slot(out: &mut [u16], at: u32, s: &[u8], k: u16, m: Room, t: &[u8], p: u8
 fn write_out(out: &mut [u16], s: &[u8], n: u8, m: Room, t: &[u8], p: u8)
     ensures { λ _. ⌜ now (out .exit) ≡ placed (now (out .entry)) 0 (translation (now (t .entry)) p (figures (now (s .entry)) m n)) ⌝ }
 {
-    entries::put(out, 0, &[0x147, p as u16]);
+    entries::put(out, 0, &[PITCH, p as u16]);
     let mut at: u32 = 2;
     let mut k: u16 = 0;
-    while k < 50 * n as u16 {
+    while k < RECORDS * n as u16 {
         at += put_slot(out, at, s, k, m, t, p);
         k += 1;
     }
 }
 
-// P and H are in range.
+// P, H and P·H are in range.
 pub fn plane_fits(p: u32, h: u32) -> bool
     ensures { λ r. ⌜ r ≡ planeB p h ⌝ }
 {
@@ -107,53 +144,95 @@ pub fn plane_fits(p: u32, h: u32) -> bool
     (1 <= p) & (p <= 255) & (1 <= h) & (h <= 4096) & (area <= 262144)
 }
 
+// So many bytes are a table of glyphs.
+pub fn table_fits(g: usize) -> bool
+    ensures { λ r. ⌜ r ≡ tableB g ⌝ }
+{
+    (g % GLYPH_BYTES == 0) & (g <= 2048)
+}
+
+// So many bytes are a sheet's.
+pub fn sheet_fits(l: usize) -> bool
+    ensures { λ r. ⌜ r ≡ sheetLengthB l ⌝ }
+{
+    (l % BLOCK_BYTES == 0) & (1 <= l / BLOCK_BYTES) & (l / BLOCK_BYTES <= 16)
+}
+
+pub fn plane_refusal(p: u32, h: u32) -> Answer
+    ensures { λ r. ⌜ r ≡ planeRefusal p h ⌝ }
+{
+    blocks::refusal_unless(plane_fits(p, h), PLANE)
+}
+
+pub fn table_refusal(g: usize) -> Answer
+    ensures { λ r. ⌜ r ≡ tableRefusal g ⌝ }
+{
+    blocks::refusal_unless(table_fits(g), TABLE)
+}
+
+pub fn length_refusal(l: usize) -> Answer
+    ensures { λ r. ⌜ r ≡ lengthRefusal l ⌝ }
+{
+    blocks::refusal_unless(sheet_fits(l), LENGTH)
+}
+
 // The plane, the glyph table's length and the sheet's.
-fn frame_refusal(p: u32, h: u32, g: usize, l: usize) -> u8
+fn frame_refusal(p: u32, h: u32, g: usize, l: usize) -> Answer
     ensures { λ r. ⌜ r ≡ frameRefusal p h g l ⌝ }
 {
-    if !plane_fits(p, h) {
-        return 11;
+    let rest = blocks::first_refusal(table_refusal(g), length_refusal(l));
+    blocks::first_refusal(plane_refusal(p, h), rest)
+}
+
+// What there is, where the plane and the table are in range.
+fn room_of(p: u32, h: u32, g: usize) -> Room
+    requires { ⌜ (p < 256) × (h ≤ 4096) × (g ≤ 2048) ⌝ }
+    ensures { λ r. ⌜ r ≡ roomOf p h g ⌝ }
+{
+    Room {
+        across: (16 * p) as u16,
+        down: h as u16,
+        glyphs: (g / GLYPH_BYTES) as u16,
     }
-    if !((g % 8 == 0) & (g <= 2048)) {
-        return 12;
+}
+
+// The first refusal of the sheet s, for a plane of P words by H lines and the glyph table t; all but that of an output too short.
+pub fn sheet_refusal(s: &[u8], p: u32, h: u32, t: &[u8]) -> Answer
+    ensures { λ r. ⌜ r ≡ sheetRefusal (now (s .entry)) p h (now (t .entry)) ⌝ }
+{
+    let f = frame_refusal(p, h, t.len(), s.len());
+    if f.number != 0 {
+        return f;
     }
-    if !((l % 512 == 0) & (1 <= l / 512) & (l / 512 <= 16)) {
-        return 13;
-    }
-    0
+    let n = (s.len() / BLOCK_BYTES) as u8;
+    let m = room_of(p, h, t.len());
+    let b = blocks::check_blocks(s, n);
+    let r = check_records(s, n, m);
+    blocks::first_refusal(b, r)
 }
 
 // The sheet s becomes entries at the output's start, for a plane of P words by H lines and the glyph table t.
 pub fn translate(s: &[u8], p: u32, h: u32, t: &[u8], out: &mut [u16]) -> Answer
     ensures { λ r. ⌜ outcome r (now (out .exit)) ≡ translateDef (now (s .entry)) p h (now (t .entry)) (now (out .entry)) ⌝ }
 {
-    let f = frame_refusal(p, h, t.len(), s.len());
-    if f != 0 {
-        return Answer {
-            number: f,
-            first: 0,
-            second: 0,
-        };
+    let refusal = sheet_refusal(s, p, h, t);
+    if refusal.number != 0 {
+        return refusal;
     }
-    let n = (s.len() / 512) as u8;
-    let m = Room {
-        across: (16 * p) as u16,
-        down: h as u16,
-        glyphs: (t.len() / 8) as u16,
-    };
-    let b = blocks::check_blocks(s, n);
-    let r = check_records(s, n, m);
-    let checked = blocks::first_refusal(b, r);
-    if checked.number != 0 {
-        return checked;
-    }
-    if out.len() < checked.first as usize {
+    let n = (s.len() / BLOCK_BYTES) as u8;
+    let m = room_of(p, h, t.len());
+    let need = entries_needed(s, n, m);
+    if out.len() < need as usize {
         return Answer {
-            number: 20,
-            first: checked.first,
+            number: SHORT,
+            first: need,
             second: 0,
         };
     }
     write_out(out, s, n, m, t, p as u8);
-    checked
+    Answer {
+        number: 0,
+        first: need,
+        second: 0,
+    }
 }

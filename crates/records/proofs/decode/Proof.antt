@@ -1,7 +1,7 @@
 -- `decode` gives `decodedOf`: one law of DecodeLaws for each way out.
 use mathlib.Core.Path.{sym, _∙_}
 use borrow.Author.Tests.{not-true, not-false}
-use Rattle.records.proofs.DecodeLaws.{refuses, dots, lines, rectangles, glyphs}
+use Rattle.records.proofs.DecodeLaws.{misformed, unknown, misfactored, stands-for}
 use borrow.Author.Needs.{needs}
 use Rattle.records.proofs.decode.Statement.{statement}
 use Rattle.records.proofs.decode.Tie as tie
@@ -10,44 +10,39 @@ formed-requires : tie.Need-formed-requires
 formed-requires c κs = search needs
 
 returns : tie.Need-returns
-returns c = refuses _ _ (sym (c .before .formed .ensures) ∙ not-true _ (c .if1 .taken))
+returns c = misformed _ _ (sym (c .before .formed .ensures) ∙ not-true _ (c .if1 .taken))
 
-dot-requires : tie.Need-dot-requires
-dot-requires c κs = search needs
+known-requires : tie.Need-known-requires
+known-requires c κs = search needs
 
 returns-2 : tie.Need-returns-2
 returns-2 c =
-    dots _ _ (sym (c .before .before .before .before .formed .ensures) ∙ not-false _ (c .before .before .before .if1 .left))
-    (c .before .if2 .taken) (c .dot .ensures)
+    unknown _ _ (sym (c .before .before .before .formed .ensures) ∙ not-false _ (c .before .before .if1 .left))
+    (sym (c .before .known .ensures) ∙ not-true _ (c .if2 .taken))
 
-line-requires : tie.Need-line-requires
-line-requires c κs = search needs
+factored-requires : tie.Need-factored-requires
+factored-requires c κs = search needs
 
 returns-3 : tie.Need-returns-3
 returns-3 c =
-    lines _ _ (sym (c .before .before .before .before .before .before .formed .ensures)
-    ∙ not-false _ (c .before .before .before .before .before .if1 .left)) (c .before .before .before .if2 .left) (c .before .if3 .taken)
-    (c .line .ensures)
+    misfactored _ _ (sym (c .before .before .before .before .before .formed .ensures)
+    ∙ not-false _ (c .before .before .before .before .if1 .left))
+    (sym (c .before .before .before .known .ensures) ∙ not-false _ (c .before .before .if2 .left))
+    (sym (c .before .factored .ensures) ∙ not-true _ (c .if3 .taken))
 
-rectangle-requires : tie.Need-rectangle-requires
-rectangle-requires c κs = search needs
+operation-of-requires : tie.Need-operation-of-requires
+operation-of-requires c κs = search needs
+
+figure-of-requires : tie.Need-figure-of-requires
+figure-of-requires c κs = search needs
 
 returns-4 : tie.Need-returns-4
 returns-4 c =
-    rectangles _ _ (sym (c .before .before .before .before .before .before .before .before .formed .ensures)
-    ∙ not-false _ (c .before .before .before .before .before .before .before .if1 .left))
-    (c .before .before .before .before .before .if2 .left) (c .before .before .before .if3 .left) (c .before .if4 .taken)
-    (c .rectangle .ensures)
-
-glyph-requires : tie.Need-glyph-requires
-glyph-requires c κs = search needs
-
-returns-5 : tie.Need-returns-5
-returns-5 c =
-    glyphs _ _ (sym (c .before .before .before .before .before .before .before .before .formed .ensures)
-    ∙ not-false _ (c .before .before .before .before .before .before .before .if1 .left))
-    (c .before .before .before .before .before .if2 .left) (c .before .before .before .if3 .left) (c .before .if4 .left)
-    (c .glyph .ensures)
+    rw (c .figure-of .ensures, c .before .operation-of .ensures)
+    (stands-for _ _ (sym (c .before .before .before .before .before .before .before .formed .ensures)
+    ∙ not-false _ (c .before .before .before .before .before .before .if1 .left))
+    (sym (c .before .before .before .before .before .known .ensures) ∙ not-false _ (c .before .before .before .before .if2 .left))
+    (sym (c .before .before .before .factored .ensures) ∙ not-false _ (c .before .before .if3 .left)))
 
 pub decode-spec : {M : Type 1} → statement M
 decode-spec =
@@ -55,11 +50,10 @@ decode-spec =
     (tie.spec
     formed-requires
     returns
-    dot-requires
+    known-requires
     returns-2
-    line-requires
+    factored-requires
     returns-3
-    rectangle-requires
-    returns-4
-    glyph-requires
-    returns-5)
+    operation-of-requires
+    figure-of-requires
+    returns-4)

@@ -1,43 +1,42 @@
--- `frame_refusal` gives `frameRefusal`: 11, 12, 13 in this order, by the definition's tests.
-use mathlib.Core.Path.{sym, _∙_}
-use borrow.Author.Tests.{not-true, not-false}
-use Rattle.sheets.specs.Sheet.{frameRefusal, tableB, lengthB}
+-- `frame_refusal` gives `frameRefusal`: 11, 12, 13 in this order.
+use Rattle.sheets.specs.Sheet.{frameRefusal}
 use borrow.Author.Needs.{needs}
 use Rattle.sheets.proofs.frame_refusal.Statement.{statement}
 use Rattle.sheets.proofs.frame_refusal.Tie as tie
 
-plane-fits-requires : tie.Need-plane-fits-requires
-plane-fits-requires c κs = search needs
+table-refusal-requires : tie.Need-table-refusal-requires
+table-refusal-requires c κs = search needs
+
+length-refusal-requires : tie.Need-length-refusal-requires
+length-refusal-requires c κs = search needs
+
+first-refusal-requires : tie.Need-first-refusal-requires
+first-refusal-requires c κs = search needs
+
+plane-refusal-requires : tie.Need-plane-refusal-requires
+plane-refusal-requires c κs = search needs
+
+first-refusal-requires-2 : tie.Need-first-refusal-requires-2
+first-refusal-requires-2 c κs = search needs
 
 returns : tie.Need-returns
 unfolding frameRefusal
-returns c = rw (sym (c .before .plane-fits .ensures) ∙ not-true _ (c .if1 .taken))
-
-returns-2 : tie.Need-returns-2
-unfolding frameRefusal
-returns-2 c =
+returns c =
     rw (
-      sym (c .before .before .plane-fits .ensures) ∙ not-false _ (c .before .if1 .left),
-      not-true (tableB (c .before .before .before .args .g)) (c .if2 .taken),
-    )
-
-returns-3 : tie.Need-returns-3
-unfolding frameRefusal
-returns-3 c =
-    rw (
-      sym (c .before .before .before .plane-fits .ensures) ∙ not-false _ (c .before .before .if1 .left),
-      not-false (tableB (c .before .before .before .before .args .g)) (c .before .if2 .left),
-      not-true (lengthB (c .before .before .before .before .args .l)) (c .if3 .taken),
-    )
-
-returns-4 : tie.Need-returns-4
-unfolding frameRefusal
-returns-4 c =
-    rw (
-      sym (c .before .before .before .plane-fits .ensures) ∙ not-false _ (c .before .before .if1 .left),
-      not-false (tableB (c .before .before .before .before .args .g)) (c .before .if2 .left),
-      not-false (lengthB (c .before .before .before .before .args .l)) (c .if3 .left),
+      c .first-refusal2 .ensures,
+      c .before .plane-refusal .ensures,
+      c .before .before .first-refusal .ensures,
+      c .before .before .before .length-refusal .ensures,
+      c .before .before .before .before .table-refusal .ensures,
     )
 
 pub frame-refusal-spec : {M : Type 1} → statement M
-frame-refusal-spec = tie.close (tie.spec plane-fits-requires returns returns-2 returns-3 returns-4)
+frame-refusal-spec =
+    tie.close
+    (tie.spec
+    table-refusal-requires
+    length-refusal-requires
+    first-refusal-requires
+    plane-refusal-requires
+    first-refusal-requires-2
+    returns)

@@ -12,8 +12,8 @@ used-requires c κs = search needs
 returns : tie.Need-returns
 returns c = put-none _ _ _ _ (none _ _ _ (sym (c .before .used .ensures) ∙ not-true _ (c .if1 .taken)))
 
-decode-record-requires : tie.Need-decode-record-requires
-decode-record-requires c κs = search needs
+slot-decoded-requires : tie.Need-slot-decoded-requires
+slot-decoded-requires c κs = search needs
 
 enum-known-d : tie.Need-enum-known-d
 enum-known-d c = search needs
@@ -23,8 +23,10 @@ enum-told c = search needs
 
 returns-2 : tie.Need-returns-2
 returns-2 c =
-    put-none _ _ _ _ (bad _ _ _ (sym (c .before .before .before .before .used .ensures)
-    ∙ not-false _ (c .before .before .before .if1 .left)) (c .before .before .decode-record .ensures) (c .enum-told .given .1))
+    put-none _ _ _ _
+    (bad _ _ _ (sym (c .before .before .before .before .used .ensures) ∙ not-false _ (c .before .before .before .if1 .left))
+    (c .before .before .slot-decoded .ensures)
+    (c .enum-told .given .1))
 
 put-record-requires : tie.Need-put-record-requires
 put-record-requires c κs = search needs
@@ -37,11 +39,11 @@ same-length c = search needs
 
 returns-3 : tie.Need-returns-3
 returns-3 c =
-    put-one _ _ _ _ (good _ _ _ (sym (c .before .before .before .before .before .before .before .before .before .before .used .ensures)
+    put-one _ _ _ _
+    (good _ _ _ (sym (c .before .before .before .before .before .before .before .before .before .before .used .ensures)
     ∙ not-false _ (c .before .before .before .before .before .before .before .before .before .if1 .left))
-    (c .before .before .before .before .before .before .before .before .decode-record .ensures)
-    (c .before .before .before .before .before .before .d .given .1)) (c .size-of .ensures)
-    (c .before .before .before .put-record .ensures)
+    (c .before .before .before .before .before .before .before .before .slot-decoded .ensures)
+    (c .before .before .before .before .before .before .d .given .1)) (c .size-of .ensures) (c .before .before .before .put-record .ensures)
 
 pub put-slot-spec : {M : Type 1} → statement M
 put-slot-spec =
@@ -49,7 +51,7 @@ put-slot-spec =
     (tie.spec
     used-requires
     returns
-    decode-record-requires
+    slot-decoded-requires
     enum-known-d
     enum-told
     returns-2

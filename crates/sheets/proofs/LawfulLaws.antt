@@ -1,0 +1,189 @@
+-- A block is not refused exactly if it is a `LawfulBlock`, a record exactly if it is a `LawfulRecord`. True because each test says one of
+-- 01's conditions in numbers; and the test of the corners or the square holds exactly if every dot of the record's shape lies in the
+-- plane (`Judges` of crate geometry).
+use mathlib.Core.Path.{_≡_, refl, sym}
+use mathlib.Core.Bool.{Bool, true, false, cond, _&&_}
+use mathlib.Core.List.{List}
+use Prim.Native.Nat.{ℕ, _+_, _-_, _*_, _/_, _%_, _<_, _≤_}
+use native.Mathlib.Omega.{arith}
+use lib.Dec.{eqb}
+use borrow.Author.Tests.{eqb-true, eqb-false, eq-eqb, leb-true, le-leb}
+use Rattle.geometry.specs.Plane.{dotOn, lineOn, borderOn, squareOn}
+use Rattle.geometry.proofs.OutsideLaws.{Outside, Judges, judges-only, outside-only, dot-judged, line-judged, border-judged, square-judged}
+use Rattle.records.specs.declared.Raw.{Raw}
+use Rattle.records.specs.declared.Room.{Room}
+use Rattle.records.specs.declared.Record.{Record}
+use Rattle.records.specs.declared.Figure.the-variants.{Dot, Line, Rectangle, Glyph}
+use Rattle.records.specs.declared.Refusal.the-variants.{Form, GlyphNumber, Factor}
+use Rattle.records.specs.declared.Refusal.the-variants as refusals
+use Rattle.records.specs.declared.Decoded.{Decoded}
+use Rattle.records.specs.declared.Decoded.the-variants.{Good, Refused}
+use Rattle.records.specs.Raw.{recordPlace}
+use Rattle.records.specs.Decode.{point, recordFormB, knownB, factorB, figureOf, decodedOf}
+use Rattle.records.specs.Inside.{insideB, judged}
+use Rattle.records.specs.Refused.{numberOf}
+use Rattle.records.proofs.TestLaws.{and-both}
+use Rattle.records.proofs.FormLaws.{Formed, form-means, form-is, known-means, known-is, factor-means, factor-is, else-glyph}
+use Rattle.blocks.specs.Block.{checkOf, countOf, checkB, numberB, countB, lastB, spareB, unusedB, headB, blockRefusal}
+use Rattle.blocks.proofs.BlockLaws.{zeros-all, all-zeros}
+use Rattle.sheets.specs.Lawful.{LawfulBlock, recordOn, LawfulRecord}
+
+-- ---- a block
+two : (a b : Bool) → _≡_ {A = ℕ} (cond a (cond b 0 15) 14) 0 → (a ≡ true) × (b ≡ true)
+two true true e = (refl, refl)
+two true false e = absurd (omega arith)
+two false b e = absurd (omega arith)
+
+module _ (s : List ℕ) (n b : ℕ) where
+  abbrev at : ℕ
+  at = 512 * b
+
+  -- the mark of the last block
+  marked : (t : Bool) → eqb (b + 1) n ≡ t → {x : ℕ} → x ≡ cond t 1 0 → (b + 1 ≡ n → x ≡ 1) × ((b + 1 ≡ n → ⊥) → x ≡ 0)
+  marked true e q = (λ k. q, λ k. absurd (k (eqb-true (b + 1) n e)))
+  marked false e q = (λ k. absurd (eqb-false (b + 1) n e k), λ k. q)
+
+  mark-is : (t : Bool) → eqb (b + 1) n ≡ t → {x : ℕ} → (b + 1 ≡ n → x ≡ 1) → ((b + 1 ≡ n → ⊥) → x ≡ 0) → x ≡ cond t 1 0
+  mark-is true e f g = f (eqb-true (b + 1) n e)
+  mark-is false e f g = g (eqb-false (b + 1) n e)
+
+  pub block-lawful : blockRefusal s n b ≡ 0 → LawfulBlock s n b
+  unfolding blockRefusal checkOf headB
+  block-lawful z =
+      let w = two (checkB s b) (headB s n b) z in
+      let f = and-both (numberB s b && countB s b && lastB s n b && spareB s b) (unusedB s b) (w .1) in
+      let g = and-both (numberB s b && countB s b && lastB s n b) (spareB s b) (f .0) in
+      let h = and-both (numberB s b && countB s b) (lastB s n b) (g .0) in
+      let k = and-both (numberB s b) (countB s b) (h .0) in
+      let l = marked (eqb (b + 1) n) refl (eqb-true _ _ (h .1)) in
+      record {
+        check = sym (eqb-true _ _ (w .0));
+        number = eqb-true _ _ (k .0);
+        count = leb-true _ _ (k .1);
+        last = l .0;
+        not-last = l .1;
+        spare = λ j u v.
+            let e : at + 504 + (j - 504) ≡ at + j = omega arith in rw (← e) (zeros-all 6 s (at + 504) (g .1) (j - 504) (omega arith));
+        unused = λ i j u v c.
+            let e : at + 4 + 10 * countOf s b + (10 * i + j - 10 * countOf s b) ≡ recordPlace b i + j = omega arith in
+            rw (← e) (zeros-all _ s (at + 4 + 10 * countOf s b) (f .1) (10 * i + j - 10 * countOf s b) (omega arith));
+      }
+
+  pub block-granted : LawfulBlock s n b → blockRefusal s n b ≡ 0
+  unfolding blockRefusal checkOf headB
+  block-granted w =
+      let c : countOf s b ≤ 50 = w .count in
+      let free : unusedB s b ≡ true =
+      all-zeros (500 - 10 * countOf s b) s (at + 4 + 10 * countOf s b)
+      (λ j l. let e : recordPlace b (countOf s b + j / 10) + j % 10 ≡ at + 4 + 10 * countOf s b + j = omega arith in
+      rw e at (w .unused (countOf s b + j / 10) (j % 10) (omega arith) (omega arith) (omega arith))) in
+      let zero : spareB s b ≡ true =
+      all-zeros 6 s (at + 504)
+      (λ j l. let e : at + (504 + j) ≡ at + 504 + j = omega arith in rw e at (w .spare (504 + j) (omega arith) (omega arith))) in
+      rw (
+        eq-eqb _ _ (sym (w .check)),
+        eq-eqb _ _ (w .number),
+        le-leb _ _ (w .count),
+        eq-eqb _ _ (mark-is (eqb (b + 1) n) refl (w .last) (w .not-last)),
+        zero,
+        free,
+      )
+
+-- ---- a record
+module _ (p h glyphs : ℕ) where
+  abbrev m : Room
+  m = record { across = 16 * p; down = h; glyphs = glyphs }
+
+  -- each kind of shape is judged by its own test
+  pub record-judged : (r : Raw) → (eqb (r .kind) 1 ≡ false → eqb (r .kind) 2 ≡ false → eqb (r .kind) 3 ≡ false → 0 < r .factor)
+      → Judges p h (insideB m (figureOf r)) (recordOn r)
+  unfolding figureOf
+  record-judged r some = go (eqb (r .kind) 1) (eqb (r .kind) 2) (eqb (r .kind) 3) some
+    where
+      go : (a b c : Bool) → (a ≡ false → b ≡ false → c ≡ false → 0 < r .factor)
+          → Judges p h
+          (insideB m (cond a (Dot (point (r .x) (r .y))) (cond b (Line (point (r .x) (r .y)) (point (r .x1) (r .y1)))
+          (cond c (Rectangle (point (r .x) (r .y)) (point (r .x1) (r .y1))) (Glyph (point (r .x) (r .y)) (r .number) (r .factor))))))
+          (cond a (dotOn (r .x) (r .y)) (cond b (lineOn (r .x) (r .y) (r .x1) (r .y1))
+          (cond c (borderOn (r .x) (r .y) (r .x1) (r .y1)) (squareOn (r .x) (r .y) (r .factor)))))
+      go true b c f = dot-judged p h (r .x) (r .y)
+      go false true c f = line-judged p h (r .x) (r .y) (r .x1) (r .y1)
+      go false false true f = border-judged p h (r .x) (r .y) (r .x1) (r .y1)
+      go false false false f = square-judged (r .x) (r .y) (r .factor) (f refl refl refl) p h
+
+  some-factor : (r : Raw) → Formed r → (r .kind ≡ 4 → (1 ≤ r .factor) × (r .factor ≤ 16))
+      → eqb (r .kind) 1 ≡ false → eqb (r .kind) 2 ≡ false → eqb (r .kind) 3 ≡ false → 0 < r .factor
+  some-factor r w f a b c = f (else-glyph r w (eqb-false _ 1 a) (eqb-false _ 2 b) (eqb-false _ 3 c)) .0
+
+  -- the four tests of a record in their order: past 16 to 18 the fourth decides
+  abbrev decodedBy : Bool → Bool → Bool → Record → Decoded
+  decodedBy a b c q = cond a (cond b (cond c (Good q) (Refused Factor)) (Refused GlyphNumber)) (Refused Form)
+
+  tests : (a b c : Bool) (q : Record) (x : ℕ) → numberOf (judged m (decodedBy a b c q)) ≡ x → (x ≡ 16 → ⊥) → (x ≡ 17 → ⊥) → (x ≡ 18 → ⊥)
+      → (a ≡ true) × (b ≡ true) × (c ≡ true) × (numberOf (judged m (Good q)) ≡ x)
+  tests true true true q x e f g k = (refl, refl, refl, e)
+  tests true true false q x e f g k = absurd (k (sym e))
+  tests true false c q x e f g k = absurd (g (sym e))
+  tests false b c q x e f g k = absurd (f (sym e))
+
+  passed : (a b c : Bool) (q : Record) → numberOf (decodedBy a b c q) ≡ 0 → (a ≡ true) × (b ≡ true) × (c ≡ true)
+  passed true true true q e = (refl, refl, refl)
+  passed true true false q e = absurd (omega arith)
+  passed true false c q e = absurd (omega arith)
+  passed false b c q e = absurd (omega arith)
+
+  test-in : (d : Bool) (q : Record) → numberOf (cond d (Good q) (Refused refusals.Outside)) ≡ 0 → d ≡ true
+  test-in true q e = refl
+  test-in false q e = absurd (omega arith)
+
+  test-out : (d : Bool) (q : Record) → numberOf (cond d (Good q) (Refused refusals.Outside)) ≡ 19 → d ≡ false
+  test-out true q e = absurd (omega arith)
+  test-out false q e = refl
+
+  module _ (r : Raw) where
+    pub record-lawful : numberOf (judged m (decodedOf r glyphs)) ≡ 0 → LawfulRecord p h glyphs r
+    unfolding decodedOf
+    record-lawful e =
+        let w = tests (recordFormB r) (knownB r glyphs) (factorB r) _ 0 e (λ k. omega arith) (λ k. omega arith) (λ k. omega arith) in
+        let f = form-means r (w .0) in
+        let g = factor-means r (w .2) in
+        record {
+          least-kind = f .least;
+          greatest-kind = f .greatest;
+          operation = f .operation;
+          dot-zeros = f .dot-zeros;
+          glyph-zeros = f .glyph-zeros;
+          number = known-means r (w .1);
+          factor = g;
+          inside = record-judged r (some-factor r f g) .inside (test-in (insideB m (figureOf r)) _ (w .3));
+        }
+
+    pub record-granted : LawfulRecord p h glyphs r → numberOf (judged m (decodedOf r glyphs)) ≡ 0
+    unfolding decodedOf
+    record-granted w =
+        let f : Formed r = record {
+          least = w .least-kind;
+          greatest = w .greatest-kind;
+          operation = w .operation;
+          dot-zeros = w .dot-zeros;
+          glyph-zeros = w .glyph-zeros;
+        } in
+        rw (
+          form-is r f,
+          known-is r (w .number),
+          factor-is r (w .factor),
+          judges-only (record-judged r (some-factor r f (w .factor))) (w .inside),
+        )
+
+    -- "19 | a dot outside": some dot of the record's shape lies outside the plane, and where 16 to 18 do not arise only there
+    pub nineteen-means : numberOf (judged m (decodedOf r glyphs)) ≡ 19 → Outside p h (recordOn r)
+    unfolding decodedOf
+    nineteen-means e =
+        let w = tests (recordFormB r) (knownB r glyphs) (factorB r) _ 19 e (λ k. omega arith) (λ k. omega arith) (λ k. omega arith) in
+        record-judged r (some-factor r (form-means r (w .0)) (factor-means r (w .2))) .outside (test-out (insideB m (figureOf r)) _ (w .3))
+
+    pub nineteen-only : numberOf (decodedOf r glyphs) ≡ 0 → Outside p h (recordOn r) → numberOf (judged m (decodedOf r glyphs)) ≡ 19
+    unfolding decodedOf
+    nineteen-only z o =
+        let w = passed (recordFormB r) (knownB r glyphs) (factorB r) _ z in
+        rw (w .0, w .1, w .2, outside-only (record-judged r (some-factor r (form-means r (w .0)) (factor-means r (w .2)))) o)
