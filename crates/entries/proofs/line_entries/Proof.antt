@@ -34,41 +34,41 @@ mul-minus-3 c = search needs
 minus-requires-2 : tie.Need-minus-requires-2
 minus-requires-2 c κs = search needs
 
-op-number-requires : tie.Need-op-number-requires
-op-number-requires c κs = search needs
+cast-t12 : tie.Need-cast-t12
+cast-t12 c = search needs
 
-add-t14 : tie.Need-add-t14
-add-t14 c = search needs
-
-cast-t15 : tie.Need-cast-t15
-cast-t15 c = search needs
-
-cast-t17 : tie.Need-cast-t17
-cast-t17 c = search needs
+cast-t14 : tie.Need-cast-t14
+cast-t14 c = search needs
 
 third-requires : tie.Need-third-requires
 third-requires c κs = search needs
 
+cast-t16 : tie.Need-cast-t16
+cast-t16 c = search needs
+
+add-t17 : tie.Need-add-t17
+add-t17 c = search needs
+
 cast-t19 : tie.Need-cast-t19
 cast-t19 c = search needs
-
-add-t20 : tie.Need-add-t20
-add-t20 c = search needs
 
 cast-t22 : tie.Need-cast-t22
 cast-t22 c = search needs
 
-cast-t25 : tie.Need-cast-t25
-cast-t25 c = search needs
+cast-t24 : tie.Need-cast-t24
+cast-t24 c = search needs
 
 cast-t27 : tie.Need-cast-t27
 cast-t27 c = search needs
 
-cast-t30 : tie.Need-cast-t30
-cast-t30 c = search needs
+cast-t29 : tie.Need-cast-t29
+cast-t29 c = search needs
 
 cast-t32 : tie.Need-cast-t32
 cast-t32 c = search needs
+
+mul-t33 : tie.Need-mul-t33
+mul-t33 c = search needs
 
 cast-t35 : tie.Need-cast-t35
 cast-t35 c = search needs
@@ -76,24 +76,17 @@ cast-t35 c = search needs
 mul-t36 : tie.Need-mul-t36
 mul-t36 c = search needs
 
-cast-t38 : tie.Need-cast-t38
-cast-t38 c = search needs
-
-mul-t39 : tie.Need-mul-t39
-mul-t39 c = search needs
-
-cast-t42 : tie.Need-cast-t42
-cast-t42 c = search needs
+cast-t39 : tie.Need-cast-t39
+cast-t39 c = search needs
 
 returns : tie.Need-returns
 unfolding lineEntries
 returns c = rw (
   c .before .third .ensures,
-  c .before .before .op-number .ensures .0,
-  c .before .before .before .minus2 .ensures,
-  c .before .before .before .before .minus .ensures,
-  c .before .before .before .before .before .before .before .slope-of .ensures,
-  c .before .before .before .before .before .before .before .before .word-of .ensures,
+  c .before .before .minus2 .ensures,
+  c .before .before .before .minus .ensures,
+  c .before .before .before .before .before .before .slope-of .ensures,
+  c .before .before .before .before .before .before .before .word-of .ensures,
 )
 
 pub line-entries-spec : {M : Type 1} → statement M
@@ -110,21 +103,19 @@ line-entries-spec =
     mul-minus-2
     mul-minus-3
     minus-requires-2
-    op-number-requires
-    add-t14
-    cast-t15
-    cast-t17
+    cast-t12
+    cast-t14
     third-requires
+    cast-t16
+    add-t17
     cast-t19
-    add-t20
     cast-t22
-    cast-t25
+    cast-t24
     cast-t27
-    cast-t30
+    cast-t29
     cast-t32
+    mul-t33
     cast-t35
     mul-t36
-    cast-t38
-    mul-t39
-    cast-t42
+    cast-t39
     returns)
