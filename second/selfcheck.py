@@ -190,6 +190,15 @@ def check_characters():
          "U 0 A 2; U 0 B 2; V 8000 0 1; "
          "D 5 1 1 1 2 8 3FFF 3FFF 12 0 3 0 00000000000000000000000000000102 "
          "0000000000000000 000000 0 0 0 0 0 0")
+    # A row of 4,097 * 16 = 65,552 dots: after 17 of them the next is the 18th
+    # of the row, word 6, dot 4, from word 5, dot 3.
+    talk("a row of 65,552 dots",
+         "C 46; P F; C 49; P 5; P 0; P 30; U 20; C 4C; P 12; P 0; P 0; P 1; P 10; C 68; U 7; U 11; D",
+         "U 0 6 2; U 0 7 1; U 0 11 1; D 6 10 0 0 1001 8 3FFF 3FFF 12 0 0 F %s 0000000000000000 000000 0 0 0 0 0 0"
+         % ("00" * 16))
+    # 8,065 * 8 rows of 8,321 * 8 dots are 2^32 + 64: not over after 64.
+    talk("2^32 + 64 dots", "C 46; P 7; U 2; C 4C; P 12; P 80; P 1F; P 81; P 20; C 68; U 7; U 40; S; U 1; S",
+         "U 0 2 1; U 0 7 1; U 0 40 1; S C; U 0 1 1; S C")
 
 
 # The eight directions as (right, down), to follow a figure in the plane.

@@ -11,6 +11,7 @@ itself and has no part in comparing it with the proved program.
 
 import argparse
 import os
+import random
 import sys
 import time
 
@@ -33,16 +34,16 @@ class Maker(Generator):
         return Generator.near(self, value, limit)
 
 
-def random_registers(chip, random):
-    chip.ead, chip.mask = random.randrange(0x40000), random.randrange(0x10000)
-    chip.pitch, chip.figs = random.randrange(256), random.randrange(256)
-    chip.dc, chip.d, chip.d2, chip.d1, chip.dm = [random.randrange(0x4000) for _ in range(5)]
-    chip.gd, chip.operation, chip.zoom = random.randrange(2), random.randrange(4), random.randrange(256)
-    chip.pram = [random.randrange(256) for _ in range(16)]
-    chip.command = random.choice([None, random.randrange(256)])
-    chip.taken = random.randrange(14)
-    if chip.command in (0x20, 0x21, 0x22, 0x23) and random.random() < 0.5:
-        chip.half_word = random.randrange(256)
+def random_registers(chip, chances):
+    chip.ead, chip.mask = chances.randrange(0x40000), chances.randrange(0x10000)
+    chip.pitch, chip.figs = chances.randrange(256), chances.randrange(256)
+    chip.dc, chip.d, chip.d2, chip.d1, chip.dm = [chances.randrange(0x4000) for _ in range(5)]
+    chip.gd, chip.operation, chip.zoom = chances.randrange(2), chances.randrange(4), chances.randrange(256)
+    chip.pram = [chances.randrange(256) for _ in range(16)]
+    chip.command = chances.choice([None, chances.randrange(256)])
+    chip.taken = chances.randrange(14)
+    if chip.command in (0x20, 0x21, 0x22, 0x23) and chances.random() < 0.5:
+        chip.half_word = chances.randrange(256)
 
 
 def one_sheet(maker, bench):
@@ -72,7 +73,7 @@ def main():
     parser.add_argument("--sheets", type=int, default=1000)
     parser.add_argument("--seed", type=int, default=1)
     wanted = parser.parse_args()
-    maker, bench = Maker(wanted.seed), Bench()
+    maker, bench = Maker(random.Random(wanted.seed)), Bench()
     start = time.time()
     units = sum(one_sheet(maker, bench) for _ in range(wanted.sheets))
     print("%d sheets, %d units, no difference, %.0f s" % (wanted.sheets, units, time.time() - start))

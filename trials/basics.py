@@ -1,7 +1,5 @@
 """The generator's small helpers, and the numbers at the edges that it likes."""
 
-import random
-
 LENGTHS = [2 ** power for power in range(4, 19)]
 LENGTH_WEIGHTS = [12, 6, 6, 6, 12, 8, 20, 8, 8, 5, 5, 4, 4, 4, 6]
 
@@ -19,6 +17,13 @@ SIZES_AT_THE_EDGE = LARGEST_PICTURES + [
     (255, 1), (256, 256), (0x10000, 0x10000), (0xFFFFFFFF, 0xFFFFFFFF), (1, 0x10001), (0x10001, 1),
     (0x101, 1), (1, 0x1001), (255, 4096), (0, 0), (1, 1), (63, 4096), (64, 4095)]
 
+# ZOOM's nibble, DC and D of characters of 2^32 dots and of few more, and of
+# ones whose rows, or whose dots in a row, are few past a multiple of 65,536.
+WIDE_CHARACTERS = [
+    (15, 0x0FFF, 0x1000), (7, 8064, 8321), (7, 5521, 12153), (6, 6003, 14599), (4, 11857, 14488), (13, 1810, 12100),
+    (15, 0, 0x1000), (15, 0, 0x1001), (15, 3, 0x2001), (12, 0, 5042), (9, 2, 6554), (4, 1, 13108), (14, 0, 8739),
+    (15, 0x0FFF, 1), (15, 0x1000, 1), (15, 0x2001, 2), (9, 6554, 1), (4, 13108, 1), (15, 0x3FFF, 0x3FFF)]
+
 DOTS_OF_A_SHEET = 2500      # about this many dots in a random drawn sheet
 SMALL_FIGURE = 700          # a figure of at most so many dots may be finished
 
@@ -26,8 +31,8 @@ SMALL_FIGURE = 700          # a figure of at most so many dots may be finished
 class Basics:
     """Lines, chances and the registers that an episode sets first."""
 
-    def __init__(self, seed):
-        self.random = random.Random(seed)
+    def __init__(self, chances=None):
+        self.random = chances        # those of the episode at hand
         self.lines = []
         self.length = 16             # of the memory, as the last M left it
         self.words, self.height = 0x28, 0x190

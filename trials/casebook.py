@@ -56,9 +56,16 @@ def unroll(source):
             continue
         end = matching_done(source, place)
         for value in words[2:]:
-            lines += unroll([line.replace("{" + words[1] + "}", value) for line in source[place:end]])
+            lines += unroll(filled(source[place:end], words[1].split("/"), value.split("/")))
         place = end + 1
     return lines
+
+
+def filled(source, names, values):
+    # The lines with each {NAME} replaced by its value.
+    for name, value in zip(names, values, strict=True):
+        source = [line.replace("{" + name + "}", value) for line in source]
+    return source
 
 
 def matching_done(source, place):
@@ -77,6 +84,8 @@ def matching_done(source, place):
 def expand_line(words):
     if words[0] == "@repeat":
         return [" ".join(words[2:])] * int(words[1])
+    if words[0] == "@bytes":
+        return [words[1] + " " + byte for byte in words[2].split(",")]
     if words[0] == "@fill":
         return [words[1] + " " + words[3] * int(words[2])]
     if words[0] == "@long":

@@ -2,6 +2,7 @@
 
 import os
 import sys
+from collections import Counter
 
 HERE = os.path.dirname(os.path.abspath(__file__))
 sys.path.insert(0, os.path.join(HERE, os.pardir, "second"))
@@ -11,7 +12,7 @@ from chip import Chip                # noqa: E402
 from commands import NAMES           # noqa: E402
 from reads import READ_MODE, WRITE_MODE  # noqa: E402
 from rows import (  # noqa: E402
-    DIRECTIONS, MOST_PARAMETERS, OPERATION_NAMES, TRANSFERS, class_of_command, reached)
+    DIRECTIONS, MOST_PARAMETERS, OPERATION_NAMES, TRANSFERS, class_of_command, reached, wide_marks)
 
 
 class CountingChip(Chip):
@@ -78,6 +79,7 @@ class CountingChip(Chip):
         return answer
 
     def run(self, budget):
+        begun = self.figure is not None and self.figure.place > 0
         done, reason = Chip.run(self, budget)
         reached("run: " + ["", "budget spent", "nothing to do", "a read awaits room"][reason])
         if budget == 0:
@@ -86,6 +88,8 @@ class CountingChip(Chip):
             reached("run: budget spent as the work ends")
         if self.figure is not None:
             reached("run: a figure cut")
+            if begun and done > 0 and self.figure.dots > 2 ** 32:
+                reached("run: goes on in more than 2^32 dots, and is cut")
         if budget == 0xFFFFFFFF:
             reached("run: the largest budget")
         if reason == 3:
@@ -156,15 +160,9 @@ class CountingChip(Chip):
             reached("RDAT %s completed" % TRANSFERS[transfer])
 
     def memory_cycle(self, pattern):
-        ones = bin(self.mask).count("1")
-        reached("cycle with mask " + {0: "0000", 1: "one bit", 16: "FFFF"}.get(ones, "of other bits"))
-        reached("cycle by " + OPERATION_NAMES[self.operation])
-        reached("cycle folded" if self.ead >= len(self.memory) else "cycle not folded")
-        if self.figure is not None:
-            kind = self.figure.kind
-            reached("%s along %s" % (kind, DIRECTIONS[self.figure.direction]))
-            reached("%s by %s" % (kind, OPERATION_NAMES[self.operation]))
-            reached("%s, pattern bit %d" % (kind, pattern & 1))
+        figure = self.figure
+        many[count_cycle, figure and figure.kind, figure and figure.direction, self.operation, pattern & 1,
+             MASKS.get(bin(self.mask).count("1"), "of other bits"), self.ead >= len(self.memory)] += 1
         Chip.memory_cycle(self, pattern)
 
     def start_figure(self, kind, dots):
@@ -181,9 +179,14 @@ class CountingChip(Chip):
             if dots > 2 ** 32:
                 reached("character: more than 2^32 units")
         Chip.start_figure(self, kind, dots)
+        if self.figure is not None:
+            factor = self.figure.factor
+            self.figure.marks = wide_marks((self.dc + 1) * factor, self.d * factor) if kind == "character" else {}
 
     def figure_cycle(self):
         kind = self.figure.kind
+        if self.figure.place in self.figure.marks:
+            reached("character: " + self.figure.marks[self.figure.place])
         Chip.figure_cycle(self)
         if self.figure is None:
             reached(kind + " ends in its last dot")
@@ -193,8 +196,6 @@ class CountingChip(Chip):
             self.count_line(figure)
         if figure.kind == "character" and figure.place % (figure.d * figure.factor) == 0:
             reached("character: returns to the row's start")
-        if self.pitch == 0:
-            reached("step with pitch 0")
         Chip.figure_step(self, figure)
 
     def count_line(self, figure):
@@ -206,19 +207,45 @@ class CountingChip(Chip):
             reached("line: the sum wraps")
 
 
+# What is counted at every dot is kept by its values first: the rows' names are worked out once for all alike.
+
+many = Counter()
+MASKS = {0: "0000", 1: "one bit", 16: "FFFF"}
+
+
+def count_cycle(times, kind, direction, operation, bit, mask, folded):
+    reached("cycle with mask " + mask, times)
+    reached("cycle by " + OPERATION_NAMES[operation], times)
+    reached("cycle folded" if folded else "cycle not folded", times)
+    if kind is not None:
+        reached("%s along %s" % (kind, DIRECTIONS[direction]), times)
+        reached("%s by %s" % (kind, OPERATION_NAMES[operation]), times)
+        reached("%s, pattern bit %d" % (kind, bit), times)
+
+
 def counting_step(ead, mask, direction, pitch):
     # Stands in for the step of figures.py while counting.
-    name = DIRECTIONS[direction]
-    if "right" in name and mask & 0x8000 or "left" in name and mask & 1:
-        reached("step %s, carry" % name)
-    else:
-        reached("step %s, no carry" % name)
     after, new_mask = plain_step(ead, mask, direction, pitch)
-    if after < ead and direction in (0, 1, 2):
-        reached("step wraps past 262,143")
-    if after > ead and direction in (4, 5, 6):
-        reached("step wraps below 0")
+    many[count_step, direction, mask & 0x8000 != 0, mask & 1, pitch == 0, (after > ead) - (after < ead)] += 1
     return after, new_mask
+
+
+def count_step(times, direction, highest, lowest, level, moved):
+    name = DIRECTIONS[direction]
+    carry = "right" in name and highest or "left" in name and lowest
+    reached("step %s, %s" % (name, "carry" if carry else "no carry"), times)
+    if level:
+        reached("step with pitch 0", times)
+    if moved < 0 and direction in (0, 1, 2):
+        reached("step wraps past 262,143", times)
+    if moved > 0 and direction in (4, 5, 6):
+        reached("step wraps below 0", times)
+
+
+def settle():
+    for (count, *values), times in many.items():
+        count(times, *values)
+    many.clear()
 
 
 plain_step = figures_module.step

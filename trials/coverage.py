@@ -15,7 +15,7 @@ sys.path.insert(0, os.path.join(HERE, os.pardir, "second"))
 
 from bench import OPERATIONS, Bench  # noqa: E402
 from reads import READ_MODE          # noqa: E402
-from counting import CountingChip    # noqa: E402
+from counting import CountingChip, settle  # noqa: E402
 from rows import OPERATION_NAMES, counts, reached, rows  # noqa: E402
 from sheet import (BLOCK_SIZE, GLYPH, LINE, RECTANGLE, Refused, cut_into_blocks,  # noqa: E402
                    read_sheet, record_of, smallest_fitting_direction)
@@ -182,6 +182,7 @@ def main():
     for line in sys.stdin.buffer.read().decode("latin-1").split("\n")[:-1]:
         bench.count_line(line)
         operations += 1
+    settle()
     table = rows()
     for row in table:
         print("%9d  %s" % (counts[row], row))

@@ -1,7 +1,8 @@
 """The episodes that drive the controller, and the lines that are not of the language."""
 
 from basics import (
-    FIGURE_TYPES, LENGTHS, LENGTH_WEIGHTS, PLAIN_COMMANDS, RDAT_BYTES, SMALL_FIGURE, WDAT_BYTES, Basics)
+    FIGURE_TYPES, LENGTHS, LENGTH_WEIGHTS, PLAIN_COMMANDS, RDAT_BYTES, SMALL_FIGURE, WDAT_BYTES, WIDE_CHARACTERS,
+    Basics)
 from building import number_bytes
 
 
@@ -72,6 +73,27 @@ class Episodes(Basics):
         if self.chance(0.04 if kind in FIGURE_TYPES else 0.5):
             start = 0x68 + 0x6C - start
         return dots, start
+
+    def wide(self):
+        # Small runs are enough to tell a narrower product: the figure of few
+        # dots that it would be ends in them.
+        self.emit("C", 0)
+        self.set_position()
+        if self.chance(0.5):
+            self.set_pitch()
+        if self.chance(0.7):
+            self.send_and_run(0x78, *[self.byte() for _ in range(8)])
+        if self.chance(0.6):
+            self.set_operation()
+        zoom, dc, d = self.pick(WIDE_CHARACTERS)
+        self.send_and_run(0x46, self.below(16) << 4 | zoom)
+        self.send_and_run(0x4C, 0x10 | self.below(8), *number_bytes(dc), *number_bytes(d))
+        self.emit("C", 0x68)
+        for _ in range(self.below(3) + 2):
+            self.emit("U", self.pick([1, 16, 17, 33, 65, 129, 257, self.below(400)]))
+            self.interlude()
+        self.look()
+        self.emit("C", 0)
 
     def cut_figure(self, dots):
         # Small runs with the ports used between them, then an end.

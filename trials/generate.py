@@ -8,6 +8,12 @@ cases of the folder `cases`, in the order of their names; then seeded random
 episodes until N operations are written (the cases always come whole, so the
 script is longer than N if N is less than they need).
 
+Each episode has a random seed of its own, of S, its kind and its number among
+its kind; so a new kind puts its episodes between the others and changes none
+of them. What one episode leaves to the next are the memory's length, the
+picture's size and the number of glyphs: a new kind that sets them for itself
+puts them back.
+
 The generator knows the language and the layout of commands and sheets; it
 never runs the second program. It keeps the work bounded: a run with an
 enormous budget, or a drawn sheet, stands only where nothing large can be in
@@ -15,17 +21,20 @@ progress.
 """
 
 import argparse
+import heapq
 import os
+import random
 import sys
 
 from casebook import expand_cases
 from episodes import Episodes
 from sheets import Sheets
 
-# The weight table: how often each kind of random episode is taken.
+# The weight table: how many of each kind are taken while others take theirs.
 WEIGHTS = {
     "loose": 14,            # any bytes to any port
     "figure": 30,           # a figure with its registers, cut by small runs
+    "wide": 4,              # a character past 16 or 32 bits, cut by small runs
     "write": 10,            # WDAT of all types
     "read": 12,             # RDAT of all types
     "answers": 6,           # CURD, LPRD, the light pen
@@ -42,23 +51,41 @@ WEIGHTS = {
 class Generator(Episodes, Sheets):
     """Random episodes of every kind."""
 
-    def random_operations(self, wanted):
+    def random_operations(self, seed, wanted):
         # Episodes, each with a look after it, until enough lines are there.
-        names = list(WEIGHTS)
-        weights = [WEIGHTS[name] for name in names]
-        while len(self.lines) < wanted:
-            getattr(self, self.random.choices(names, weights)[0])()
+        self.new_memory(16)
+        for kind, chances in episodes(seed):
+            if len(self.lines) >= wanted:
+                return self.lines[:wanted]
+            self.random = chances
+            getattr(self, kind)()
             self.look()
-        return self.lines[:wanted]
+
+
+def episodes(seed):
+    """Without end: each episode's kind and its own chances.
+
+    The n-th of a kind with weight w comes at a time between n / w and (n + 1) / w.
+    """
+    waiting = [turn(seed, kind, 0) for kind in WEIGHTS]
+    heapq.heapify(waiting)
+    while True:
+        _, kind, number, chances = waiting[0]
+        heapq.heapreplace(waiting, turn(seed, kind, number + 1))
+        yield kind, chances
+
+
+def turn(seed, kind, number):
+    # A text as the seed gives the same numbers on every machine.
+    chances = random.Random("%d %s %d" % (seed, kind, number))
+    return (number + chances.random()) / WEIGHTS[kind], kind, number, chances
 
 
 def make_script(seed, operations, with_cases=True):
     lines = []
     if with_cases:
         lines = expand_cases(os.path.join(os.path.dirname(os.path.abspath(__file__)), "cases"))
-    generator = Generator(seed)
-    generator.new_memory(16)
-    return lines + generator.random_operations(max(0, operations - len(lines)))
+    return lines + Generator().random_operations(seed, max(0, operations - len(lines)))
 
 
 def main():

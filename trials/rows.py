@@ -21,11 +21,19 @@ MOST_PARAMETERS = {"RESET": 8, "CCHAR": 3, "ZOOM": 1, "CURS": 3, "PITCH": 1, "MA
 SHEET_KINDS = ["dot", "line", "line of one dot", "diagonal line", "rectangle", "flat rectangle",
                "standing rectangle", "rectangle of one dot", "glyph"]
 
+# Dots of a character by which a program with narrower numbers is told.
+PAST_WIDTH = "on past its row's dots modulo 65,536"
+PAST_ROWS = "on past its rows modulo 65,536"
+PAST_DOTS = "on past its dots modulo 2^32"
+PAST_COLUMN = "dot 65,536 of a row"
+PAST_ROW = "row 65,536"
+PAST_RETURN = "a row of more than 65,536 dots ends"
+
 counts = Counter()
 
 
-def reached(row):
-    counts[row] += 1
+def reached(row, times=1):
+    counts[row] += times
 
 
 def class_of_command(byte):
@@ -44,6 +52,24 @@ def class_of_command(byte):
     if 0xA0 <= byte <= 0xBF:
         return "unknown: RDAT with low bits"
     return "unknown: %X0 to %XF" % (byte >> 4, byte >> 4)
+
+
+def wide_marks(rows_wanted, width):
+    # The places in a character, given its rows and a row's dots, that have a
+    # row of their own.
+    marks = {}
+    if width >= 65536:
+        marks[width % 65536] = PAST_WIDTH
+    if rows_wanted >= 65536:
+        marks[rows_wanted % 65536 * width] = PAST_ROWS
+    if rows_wanted * width >= 2 ** 32:
+        marks[rows_wanted * width % 2 ** 32] = PAST_DOTS
+    if width > 65536:
+        marks[65536] = PAST_COLUMN
+        marks[width] = PAST_RETURN
+    if rows_wanted > 65536:
+        marks[65536 * width] = PAST_ROW
+    return marks
 
 
 def rows():
@@ -85,7 +111,8 @@ def rows_of_figures():
     table += ["rectangle: D = 0 only", "rectangle: D2 = 0 only", "rectangle: both sides"]
     table += ["character: factor %d" % factor for factor in range(1, 17)]
     table += ["character: " + what for what in ("returns to the row's start", "more than 8 rows",
-                                                "more than 8 dots", "more than 2^32 units")]
+                                                "more than 8 dots", "more than 2^32 units", PAST_WIDTH,
+                                                PAST_ROWS, PAST_DOTS, PAST_COLUMN, PAST_ROW, PAST_RETURN)]
     return table
 
 
@@ -121,7 +148,8 @@ def rows_of_ports():
     table += ["pen posted", "pen replaced", "LPRD clears bit 7"]
     table += ["status bit %d is %d" % (bit, value) for bit in (7, 3, 2, 1, 0) for value in (0, 1)]
     table += ["run: budget spent", "run: nothing to do", "run: a read awaits room", "run: budget 0",
-              "run: budget spent as the work ends", "run: a figure cut", "run: the largest budget"]
+              "run: budget spent as the work ends", "run: a figure cut", "run: the largest budget",
+              "run: goes on in more than 2^32 dots, and is cut"]
     table += ["memory of %d words" % 2 ** power for power in range(4, 19)]
     return table
 

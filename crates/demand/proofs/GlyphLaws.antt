@@ -25,7 +25,7 @@ use Rattle.registers.specs.declared.Command.the-variants.{Figs}
 use Rattle.registers.specs.declared.Drawing.{Drawing}
 use Rattle.registers.specs.declared.Registers.{Registers}
 use Rattle.registers.specs.Fresh.{emptyBuffer}
-use Rattle.registers.specs.Put.{putZoom}
+use Rattle.registers.specs.Put.{putCursor, putDrawing, putRam, putVideo, putBuffer, putProgress, putZoom}
 use Rattle.registers.specs.Size.{factorOf, rowsOf, columnsOf}
 use Rattle.registers.specs.State.{State}
 use Rattle.figures.specs.Character.{characterPattern}
@@ -82,19 +82,8 @@ module _ (p h : ℕ) (sized : Sized p h) (s : State) (held : Held p h s) (op : O
   -- the registers before GCHRD
   abbrev q : Registers
   q =
-      record {
-        cursor = first;
-        pitch = s .regs .pitch;
-        drawing = f;
-        op = s .regs .op;
-        ram = ram;
-        video = putZoom (s .regs .video) (g - 1);
-        pen = s .regs .pen;
-        mode = s .regs .mode;
-        buffer = emptyBuffer;
-        progress = progress Figs 3;
-        work = s .regs .work;
-      }
+      putProgress (putBuffer (putVideo (putDrawing (putCursor (putRam (s .regs) ram) first) f)
+      (putZoom (s .regs .video) (g - 1))) emptyBuffer) (progress Figs 3)
 
   acts : Acts (s .regs) before q
   acts =

@@ -130,10 +130,10 @@ module _ (sheet : List ℕ) (p h : ℕ) (glyphs : List ℕ) (entries : List ℕ)
       }
 
 pub sheet-is-drawn : SheetIsDrawn
-sheet-is-drawn sheet p h glyphs r entries mem q out′ drawn e z bytes sound typed start words long room =
+sheet-is-drawn sheet p h glyphs r entries mem q out′ drawn e z bytes sound typed words long room =
     let w = finished (state r mem) in
     let settled = finishes (length mem) long (state r mem)
-    (record { regs = lawful r sound typed start; words = words; long = refl }) in
+    (record { regs = lawful r sound typed; words = words; long = refl }) in
     let long′ : lengthB (length (w .mem)) ≡ true = ap lengthB (settled .whole .long) ∙ long in
     let room′ : p * h ≤ length (w .mem) = rw (settled .whole .long) room in
     right sheet p h glyphs entries z bytes w

@@ -18,7 +18,6 @@ use Rattle.geometry.specs.Plane.{InPlane}
 use Rattle.sending.specs.Send.{Ready, AllAccepted}
 use Rattle.demand.specs.Picture.{figuresMade, figuresDots}
 use Rattle.demand.specs.Shown.{Bytes}
-use Rattle.laws.proofs.KeptLaws.{StartFits}
 use Rattle.sends.specs.Sends.{finished}
 use Rattle.drawing.specs.declared.Drawn.{Drawn}
 use Rattle.drawing.specs.Draw.{outcome, sheetDrawn}
@@ -52,7 +51,7 @@ SheetIsDrawn =
     (sheet : List ℕ) (p h : ℕ) (glyphs : List ℕ) (r : Registers) (entries mem : List ℕ) (q : Drawn) (out drawn : List ℕ)
     → outcome q out drawn ≡ sheetDrawn sheet p h glyphs r entries mem
     → translateDef sheet p h glyphs entries .answer .number ≡ 0 → Bytes glyphs
-    → soundB r ≡ true → Typed r → StartFits (r .work) → Words mem → lengthB (length mem) ≡ true → p * h ≤ length mem
+    → soundB r ≡ true → Typed r → Words mem → lengthB (length mem) ≡ true → p * h ≤ length mem
     → Right p h glyphs (figuresOf sheet p h glyphs) (finished (state r mem) .sent .regs) (finished (state r mem) .mem) q out drawn
 
 -- .. and where the set is in write mode, with its buffer empty and nothing being drawn, over the memory as it is lent

@@ -11,7 +11,8 @@ use lib.Seq.{drop-cons, length-sets, sets-eq}
 use Rattle.records.specs.declared.Record.{Record}
 use Rattle.records.specs.declared.Figure.{Figure}
 use Rattle.records.specs.declared.Figure.the-variants.{Dot, Line, Rectangle, Glyph}
-use Rattle.entries.specs.Entries.{opNumber, placed, plain, figureSize, sizeOf, figureEntries, entriesOf, dotEntries, lineEntries}
+use Rattle.dots.specs.Operation.{operationNumber}
+use Rattle.entries.specs.Entries.{placed, plain, figureSize, sizeOf, figureEntries, entriesOf, dotEntries, lineEntries}
 use Rattle.entries.specs.Entries.{rectangleEntries, glyphEntries}
 
 -- ---- the loop of `put`
@@ -68,8 +69,9 @@ pub put-by : (at : ℕ) (t : List ℕ) (p : ℕ) {f g : Figure} {e o′ : List �
 put-by at t p o v w h = rw (v, ← w) h
 
 -- WDAT, and the figure behind it, are the record's
-pub record-put : (at : ℕ) (t : List ℕ) (p : ℕ) (r : Record) {n : ℕ} {f : Figure} {o′ o″ : List ℕ} (o : List ℕ) → n ≡ opNumber (r .op)
-    → f ≡ plain (r .figure) → o′ ≡ set o at (0x120 + n) → o″ ≡ placed o′ (at + 1) (figureEntries t p f)
+pub record-put : (at : ℕ) (t : List ℕ) (p : ℕ) (r : Record) {n : ℕ} {f : Figure} {o′ o″ : List ℕ} (o : List ℕ)
+    → n ≡ 0x120 + operationNumber (r .op)
+    → f ≡ plain (r .figure) → o′ ≡ set o at n → o″ ≡ placed o′ (at + 1) (figureEntries t p f)
     → o″ ≡ placed o at (entriesOf t p r)
 unfolding entriesOf placed
 record-put at t p r o u v w h = let e : at + 1 ≡ suc at = omega arith in h ∙ rw (w, u, v, e)

@@ -6,7 +6,7 @@ use lib.Dec.{eqb, leb}
 use lib.ListN.{getD}
 use lib.Seq.{sets}
 use Rattle.dots.specs.declared.Operation.{Operation}
-use Rattle.dots.specs.declared.Operation.the-variants.{Replace, Complement, Reset, Set}
+use Rattle.dots.specs.Operation.{operationNumber}
 use Rattle.records.specs.declared.Point.{Point}
 use Rattle.records.specs.declared.Record.{Record}
 use Rattle.records.specs.declared.Figure.{Figure}
@@ -14,13 +14,6 @@ use Rattle.records.specs.declared.Figure.the-variants.{Dot, Line, Rectangle, Gl
 use Rattle.entries.specs.declared.Slope.{Slope}
 
 -- ---- what every figure starts with
-
--- "0 REPLACE", "1 COMPLEMENT", "2 RESET", "3 SET"
-abbrev pub opNumber : Operation → ℕ
-opNumber Replace = 0
-opNumber Complement = 1
-opNumber Reset = 2
-opNumber Set = 3
 
 -- "dot (x, y) is bit x mod 16 of word y·P + x div 16"
 abbrev pub eadOf : ℕ → Point → ℕ
@@ -165,7 +158,7 @@ figureEntries t p (Glyph a n g) = glyphEntries t p a n g
 
 -- "per figure WDAT word with the operation, then" the figure's own; "WDAT 20 + 8·type + operation"
 unfoldable pub entriesOf : List ℕ → ℕ → Record → List ℕ
-entriesOf t p r = (0x120 + opNumber (r .op)) ∷ figureEntries t p (plain (r .figure))
+entriesOf t p r = (0x120 + operationNumber (r .op)) ∷ figureEntries t p (plain (r .figure))
 
 -- how many they are (`entries-size` of PutLaws)
 abbrev pub figureSize : Figure → ℕ

@@ -6,7 +6,8 @@ use records::Record;
 ghost use mathlib.Core.Path.{_≡_};
 ghost use Prim.Native.Nat.{_+_, _*_, _/_, _%_, _-_, _<_, min, max};
 ghost use lib.ListN.{getD, set};
-ghost use Rattle.entries.specs.Entries.{opNumber, minus14, distance, dirOf, slopeOf, dotEntries, lineEntries, rectangleEntries};
+ghost use Rattle.dots.specs.Operation.{operationNumber};
+ghost use Rattle.entries.specs.Entries.{minus14, distance, dirOf, slopeOf, dotEntries, lineEntries, rectangleEntries};
 ghost use Rattle.entries.specs.Entries.{glyphEntries, least, greatest, plain, sizeOf, figureEntries, entriesOf, placed};
 
 // A line's direction, its larger distance and its smaller one.
@@ -16,15 +17,11 @@ pub struct Slope {
     pub minor: u16,
 }
 
-fn op_number(o: Operation) -> u16
-    ensures { λ r. ⌜ (r ≡ opNumber o) × (r < 4) ⌝ }
+// WDAT word with the operation.
+fn wdat(op: Operation) -> u16
+    ensures { λ r. ⌜ r ≡ 0x120 + operationNumber op ⌝ }
 {
-    match o {
-        Operation::Replace => 0,
-        Operation::Complement => 1,
-        Operation::Reset => 2,
-        Operation::Set => 3,
-    }
+    0x120 + dots::operation_number(op) as u16
 }
 
 // The word of the dot (x, y).
@@ -353,6 +350,6 @@ pub fn put_record(out: &mut [u16], at: u32, t: &[u8], p: u8, r: Record)
 {
     let op = r.op;
     let figure = r.figure;
-    store(out, at as usize, 0x120 + op_number(op));
+    store(out, at as usize, wdat(op));
     put_figure(out, at as usize + 1, t, p, plain_of(figure));
 }

@@ -18,7 +18,7 @@ ghost use Rattle.figures.specs.Figure.{
 };
 
 // Dot k's pattern bit, for all masked bits.
-fn pattern_at(low: u8, high: u8, k: u32) -> u16
+fn pattern_of(low: u8, high: u8, k: u32) -> u16
     ensures { λ p. ⌜ p ≡ patternOf low high k ⌝ }
 {
     let word = low as u32 + 256 * high as u32;
@@ -133,6 +133,6 @@ pub fn figure_unit(r: Registers, k: u32, d: u16, mem: &mut [u16]) -> Registers
 {
     let ram = r.ram;
     let op = r.op;
-    dots::cycle(mem, r.cursor, pattern_at(ram[8], ram[9], k), op);
+    dots::cycle(mem, r.cursor, pattern_of(ram[8], ram[9], k), op);
     figure_moved(r, k, d)
 }

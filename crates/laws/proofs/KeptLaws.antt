@@ -1,6 +1,6 @@
 -- What every entry of the controller keeps: a register set that is sound and has what its types say (`Lawful`), over a memory of
 -- 16-bit words of one length (`Whole`). A change of one register keeps it if the new value has its part.
-use mathlib.Core.Path.{_≡_, refl, _∙_}
+use mathlib.Core.Path.{_≡_, _∙_}
 use mathlib.Core.Bool.{true}
 use mathlib.Core.List.{List, [], _∷_}
 use Prim.Native.Nat.{ℕ, zero, suc, _≤_, _<_}
@@ -12,26 +12,19 @@ use Rattle.dots.specs.Cycle.{metBy, cycled}
 use Rattle.dots.proofs.LogicLaws.{combined-lt}
 use Rattle.registers.specs.declared.Mode.{Mode}
 use Rattle.registers.specs.declared.Work.{Work}
-use Rattle.registers.specs.declared.Work.the-variants.{Idle, Figure, Character, Reading}
+use Rattle.registers.specs.declared.Work.the-variants.{Idle}
 use Rattle.registers.specs.declared.Drawing.{Drawing}
 use Rattle.registers.specs.declared.Video.{Video}
 use Rattle.registers.specs.declared.Pen.{Pen}
 use Rattle.registers.specs.declared.Buffer.{Buffer}
 use Rattle.registers.specs.declared.Progress.{Progress}
 use Rattle.registers.specs.declared.Registers.{Registers}
-use Rattle.registers.specs.Fresh.{freshSet}
 use Rattle.registers.specs.Sound.{soundB}
-use Rattle.registers.specs.Put.{putCursor, putPitch, putDrawing, putOp, putRam, putVideo, putPen, putBuffer, putProgress, putWork}
+use Rattle.registers.specs.Put.{putCursor, putPitch, putDrawing, putOp, putRam, putVideo, putPen, putMode, putBuffer, putProgress}
+use Rattle.registers.specs.Put.{putWork}
 use Rattle.registers.specs.State.{State, state}
-use Rattle.registers.specs.Typed.{Typed, Words}
-use Rattle.laws.proofs.SoundLaws.{DrawingFits, BufferFits, Inside, Suits, sound-parts, sound-whole, fresh-sound, fresh-typed}
-
--- the mask with which a character's row started is a `u16` as well (`Typed` says it of the cursor's only); the next row starts from it
-abbrev pub StartFits : Work → Type 0
-StartFits Idle = Unit {0}
-StartFits (Figure k d) = Unit {0}
-StartFits (Character row column start) = start .mask < 65536
-StartFits (Reading item t) = Unit {0}
+use Rattle.registers.specs.Typed.{StartFits, Typed, Words}
+use Rattle.laws.proofs.SoundLaws.{DrawingFits, BufferFits, Inside, Suits, sound-parts, sound-whole}
 
 pub record Queue (m : Mode) (b : Buffer) : Type 0 where
   pub fits : BufferFits m b
@@ -62,8 +55,8 @@ idle f zoom m e = record { place = rw e tt; mode = rw e tt; start = rw e tt }
 
 -- ---- from soundness and types, and back
 
-pub lawful : (r : Registers) → soundB r ≡ true → Typed r → StartFits (r .work) → Lawful r
-lawful r e t start =
+pub lawful : (r : Registers) → soundB r ≡ true → Typed r → Lawful r
+lawful r e t =
     let s = sound-parts r e in
     record {
       cursor = record { ead = s .cursor; mask = t .mask };
@@ -72,16 +65,8 @@ lawful r e t start =
       pen = s .pen;
       buffer = record { fits = s .buffer; long = t .entries };
       progress = s .progress;
-      work = record { place = s .place; mode = s .work; start = start };
+      work = record { place = s .place; mode = s .work; start = t .start };
     }
-
--- .. where nothing is in progress, and the fresh set
-pub lawful-idle : (r : Registers) → soundB r ≡ true → Typed r → r .work ≡ Idle → Lawful r
-lawful-idle r e t p = lawful r e t (idle (r .drawing) (r .video .zoom) (r .mode) p .start)
-
-pub fresh-lawful : Lawful freshSet
-unfolding freshSet
-fresh-lawful = lawful-idle freshSet fresh-sound fresh-typed refl
 
 pub lawful-sound : (r : Registers) → Lawful r → soundB r ≡ true
 lawful-sound r l =
@@ -97,70 +82,42 @@ lawful-sound r l =
     })
 
 pub lawful-typed : (r : Registers) → Lawful r → Typed r
-lawful-typed r l = record { mask = l .cursor .mask; ram = l .ram; entries = l .buffer .long }
+lawful-typed r l = record { mask = l .cursor .mask; ram = l .ram; entries = l .buffer .long; start = l .work .start }
 
--- ---- one register changed
+-- ---- one register changed: its part is given, and the others stay as they are, so each is found
 
 module _ (r : Registers) (l : Lawful r) where
   pub cursor-kept : (c : Cursor) → Fits c → Lawful (putCursor r c)
-  cursor-kept c h =
-      record { cursor = h; drawing = l .drawing; ram = l .ram; pen = l .pen; buffer = l .buffer; progress = l .progress; work = l .work }
+  cursor-kept c h = search
 
   pub plain-kept : (pitch : ℕ) (op : Operation) → Lawful (putOp (putPitch r pitch) op)
-  plain-kept pitch op =
-      record {
-        cursor = l .cursor;
-        drawing = l .drawing;
-        ram = l .ram;
-        pen = l .pen;
-        buffer = l .buffer;
-        progress = l .progress;
-        work = l .work;
-      }
+  plain-kept pitch op = search
 
   pub drawing-kept : r .work ≡ Idle → (f : Drawing) → DrawingFits f → Lawful (putDrawing r f)
-  drawing-kept e f h =
-      record {
-        cursor = l .cursor;
-        drawing = h;
-        ram = l .ram;
-        pen = l .pen;
-        buffer = l .buffer;
-        progress = l .progress;
-        work = idle f (r .video .zoom) (r .mode) e;
-      }
+  drawing-kept e f h = search idle
 
   pub ram-kept : (a : List ℕ) → length a ≡ 16 → Lawful (putRam r a)
-  ram-kept a h =
-      record { cursor = l .cursor; drawing = l .drawing; ram = h; pen = l .pen; buffer = l .buffer; progress = l .progress; work = l .work }
+  ram-kept a h = search
 
   pub video-kept : r .work ≡ Idle → (v : Video) → Lawful (putVideo r v)
-  video-kept e v =
-      record {
-        cursor = l .cursor;
-        drawing = l .drawing;
-        ram = l .ram;
-        pen = l .pen;
-        buffer = l .buffer;
-        progress = l .progress;
-        work = idle (r .drawing) (v .zoom) (r .mode) e;
-      }
+  video-kept e v = search idle
 
   pub pen-kept : (p : Pen) → p .address < 262144 → Lawful (putPen r p)
-  pen-kept p h =
-      record { cursor = l .cursor; drawing = l .drawing; ram = l .ram; pen = h; buffer = l .buffer; progress = l .progress; work = l .work }
-
-  pub buffer-kept : (b : Buffer) → Queue (r .mode) b → Lawful (putBuffer r b)
-  buffer-kept b h =
-      record { cursor = l .cursor; drawing = l .drawing; ram = l .ram; pen = l .pen; buffer = h; progress = l .progress; work = l .work }
+  pen-kept p h = search
 
   pub progress-kept : (p : Progress) → p .next ≤ 16 → Lawful (putProgress r p)
-  progress-kept p h =
-      record { cursor = l .cursor; drawing = l .drawing; ram = l .ram; pen = l .pen; buffer = l .buffer; progress = h; work = l .work }
+  progress-kept p h = search
+
+  -- mode, buffer and work go together
+  pub turn-kept : (m : Mode) (b : Buffer) (w : Work) → Queue m b → Going (r .drawing) (r .video .zoom) m w
+      → Lawful (putWork (putBuffer (putMode r m) b) w)
+  turn-kept m b w q g = search
+
+  pub buffer-kept : (b : Buffer) → Queue (r .mode) b → Lawful (putBuffer r b)
+  buffer-kept b h = search
 
   pub work-kept : (w : Work) → Going (r .drawing) (r .video .zoom) (r .mode) w → Lawful (putWork r w)
-  work-kept w h =
-      record { cursor = l .cursor; drawing = l .drawing; ram = l .ram; pen = l .pen; buffer = l .buffer; progress = l .progress; work = h }
+  work-kept w h = search
 
 -- ---- the memory
 

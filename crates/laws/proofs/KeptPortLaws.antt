@@ -8,14 +8,16 @@ use lib.Dec.{eqb, leb}
 use borrow.Author.Tests.{leb-false}
 use Rattle.registers.specs.declared.Mode.{Mode}
 use Rattle.registers.specs.declared.Mode.the-variants.{Write, Read}
+use Rattle.registers.specs.declared.Work.the-variants.{Idle}
 use Rattle.registers.specs.declared.Registers.{Registers}
+use Rattle.registers.specs.Fresh.{emptyBuffer}
 use Rattle.registers.specs.Sound.{soundB, markB}
 use Rattle.registers.specs.Buffer.{pushed, popped}
 use Rattle.ports.specs.declared.Answer.{Answer}
 use Rattle.ports.specs.Port.{queued, turnedBack, queuedOr3, commandIn, commandWritten, parameterIn, parameterWritten, byteIn, byteRead}
 use Rattle.ports.specs.Port.{statusRead, penPosted}
 use Rattle.laws.proofs.BranchLaws.{either, cases}
-use Rattle.laws.proofs.KeptLaws.{Lawful, buffer-kept, pen-kept}
+use Rattle.laws.proofs.KeptLaws.{Lawful, idle, buffer-kept, pen-kept, turn-kept}
 use Rattle.laws.proofs.KeptBufferLaws.{empty-queue, pushed-queue, popped-queue}
 use Rattle.laws.proofs.KeptProcessorLaws.{reset-kept}
 
@@ -31,16 +33,7 @@ module _ (r : Registers) (l : Lawful r) where
   queued-or-3 e h = either Answers (leb 16 (r .buffer .count)) l (queued-kept e h)
 
 pub turned-back : (r : Registers) → Lawful r → Lawful (turnedBack r)
-turned-back r l =
-    record {
-      cursor = l .cursor;
-      drawing = l .drawing;
-      ram = l .ram;
-      pen = l .pen;
-      buffer = empty-queue Write;
-      progress = l .progress;
-      work = record { place = tt; mode = tt; start = tt };
-    }
+turned-back r l = turn-kept r l Write emptyBuffer Idle (empty-queue Write) (idle (r .drawing) (r .video .zoom) Write refl)
 
 module _ (r : Registers) (l : Lawful r) where
   command-in : (m : Mode) → r .mode ≡ m → (b : ℕ) → b < 256 → Answers (commandIn m r b)

@@ -10,6 +10,7 @@ use lib.Dec.{eqb, ltb, ltb→lt}
 use lib.ListN.{set, length-set}
 use borrow.Author.Tests.{ltb-true, lt-ltb}
 use Rattle.dots.specs.declared.Cursor.{Cursor}
+use Rattle.dots.specs.Operation.{operationOf}
 use Rattle.dots.specs.Step.{Fits, wordMoveOf}
 use Rattle.dots.proofs.Below.{below}
 use Rattle.registers.specs.declared.Mode.the-variants.{Write, Read}
@@ -25,11 +26,11 @@ use Rattle.registers.specs.declared.Registers.{Registers}
 use Rattle.registers.specs.Fresh.{freshDrawing, emptyBuffer}
 use Rattle.registers.specs.Size.{dotsOf, rowsOf, columnsOf}
 use Rattle.registers.specs.Sound.{allBelow}
-use Rattle.registers.specs.Put.{putCursor, putProgress}
+use Rattle.registers.specs.Put.{putCursor, putVideo, putMode, putBuffer, putProgress, putWork, putDisplay}
 use Rattle.registers.specs.State.{State, state}
 use Rattle.registers.proofs.BoolLaws.{and-left, and-right}
 use Rattle.commands.specs.Decode.{within, commandOf}
-use Rattle.processor.specs.Command.{begun, resetDone, turned, cursorBytes, penBytes, operationOf, figureBegun, characterBegun, readBegun}
+use Rattle.processor.specs.Command.{begun, resetDone, turned, cursorBytes, penBytes, figureBegun, characterBegun, readBegun}
 use Rattle.processor.specs.Command.{commandBy, commandTaken}
 use Rattle.processor.specs.Parameter.{cursBy, maskBy, figsBy, ramBy, pitchBy, syncBy, ccharBy, zoomBy}
 use Rattle.processor.specs.Wdat.{halfB, wdatPattern, wdatProgress, setDone, wdatTaken}
@@ -37,7 +38,7 @@ use Rattle.processor.specs.Entry.{nextOf, counted, parameterBy, parameterTaken,
 use Rattle.laws.proofs.BranchLaws.{either, cases}
 use Rattle.laws.proofs.SoundLaws.{DrawingFits}
 use Rattle.laws.proofs.KeptLaws.{Queue, Lawful, Whole, idle, cursor-kept, plain-kept, drawing-kept, ram-kept, video-kept, pen-kept}
-use Rattle.laws.proofs.KeptLaws.{progress-kept, work-kept, cycle-kept}
+use Rattle.laws.proofs.KeptLaws.{progress-kept, work-kept, turn-kept, cycle-kept}
 use Rattle.laws.proofs.KeptBufferLaws.{bytes-queue, empty-queue}
 
 -- ---- commands
@@ -45,15 +46,10 @@ use Rattle.laws.proofs.KeptBufferLaws.{bytes-queue, empty-queue}
 pub reset-kept : (r : Registers) → Lawful r → Lawful (resetDone r)
 unfolding resetDone
 reset-kept r l =
-    record {
-      cursor = l .cursor;
-      drawing = l .drawing;
-      ram = l .ram;
-      pen = l .pen;
-      buffer = empty-queue Write;
-      progress = omega arith;
-      work = record { place = tt; mode = tt; start = tt };
-    }
+    let ended = putWork (putBuffer (putMode r Write) emptyBuffer) Idle in
+    let still : Lawful ended = turn-kept r l Write emptyBuffer Idle (empty-queue Write) (idle (r .drawing) (r .video .zoom) Write refl) in
+    let dark = putVideo ended (putDisplay (r .video) false) in
+    progress-kept dark (video-kept ended still refl (putDisplay (r .video) false)) (begun Reset 0) (omega arith)
 
 -- the bytes of a read suit read mode
 cursor-bytes : (c : Cursor) → Fits c → Queue Read (cursorBytes c)
@@ -84,16 +80,7 @@ fresh-drawing f s =
 
 module _ (r : Registers) (l : Lawful r) (e : r .work ≡ Idle) where
   turned-kept : (b : Buffer) → Queue Read b → Lawful (turned r b)
-  turned-kept b q =
-      record {
-        cursor = l .cursor;
-        drawing = l .drawing;
-        ram = l .ram;
-        pen = l .pen;
-        buffer = q;
-        progress = l .progress;
-        work = idle (r .drawing) (r .video .zoom) Read e;
-      }
+  turned-kept b q = turn-kept r l Read b (r .work) q (idle (r .drawing) (r .video .zoom) Read e)
 
   read-kept : (t : Transfer) → Lawful (readBegun t r)
   unfolding readBegun
@@ -149,7 +136,7 @@ module _ (r : Registers) (l : Lawful r) (e : r .work ≡ Idle) where
     command-by Lprd b =
         pen-kept (turned r (penBytes (r .pen))) (turned-kept (penBytes (r .pen)) (pen-bytes (r .pen)))
         (record { address = r .pen .address; set = false }) (l .pen)
-    command-by (Wdat t) b = plain-kept r l (r .pitch) (operationOf b)
+    command-by (Wdat t) b = plain-kept r l (r .pitch) (operationOf (b % 4))
     command-by (Rdat t) b = read-kept t
     command-by Unknown b = l
 

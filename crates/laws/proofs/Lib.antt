@@ -6,6 +6,6 @@ pub mod KeptProcessorLaws
 pub mod KeptFigureLaws
 pub mod KeptUnitLaws
 pub mod KeptPortLaws
+pub mod Kept
 pub mod RunLaws
 pub mod OnlyLaws
-pub mod BenchSheet

@@ -17,7 +17,7 @@ use Rattle.registers.specs.Sound.{soundB}
 use Rattle.registers.specs.State.{State}
 use Rattle.figures.specs.Reading.{roomB, readUnit}
 use Rattle.units.specs.Unit.{fetchBy, unitBy, unitDone}
-use Rattle.units.specs.Run.{waiting, reasonBy, reasonOf, unitsDone, Outcome, outcome, stopped, runFrom, lengthB, refused, runBy, runDone}
+use Rattle.units.specs.Run.{waiting, reasonBy, reasonOf, unitsDone, Outcome, outcome, stopped, runFrom, lengthB, runRefused, runBy, runDone}
 use Rattle.laws.proofs.BranchLaws.{either, cases}
 use Rattle.laws.proofs.KeptLaws.{Whole, lawful-sound}
 use Rattle.laws.proofs.KeptUnitLaws.{leftBy, run-from-kept}
@@ -232,11 +232,11 @@ module _ (budget : ℕ) (s : State) where
   unfolding runDone
   run-granted e h = rw (e, h)
 
-  pub run-unsound : soundB (s .regs) ≡ false → runDone budget s ≡ refused 1 s
+  pub run-unsound : soundB (s .regs) ≡ false → runDone budget s ≡ runRefused 1 s
   unfolding runDone
   run-unsound e = rw e
 
-  pub run-wrong-length : soundB (s .regs) ≡ true → lengthB (length (s .mem)) ≡ false → runDone budget s ≡ refused 2 s
+  pub run-wrong-length : soundB (s .regs) ≡ true → lengthB (length (s .mem)) ≡ false → runDone budget s ≡ runRefused 2 s
   unfolding runDone
   run-wrong-length e h = rw (e, h)
 

@@ -224,4 +224,4 @@ fresh-sound = refl
 
 pub fresh-typed : Typed freshSet
 unfolding freshSet
-fresh-typed = record { mask = omega arith; ram = refl; entries = refl }
+fresh-typed = record { mask = omega arith; ram = refl; entries = refl; start = tt }

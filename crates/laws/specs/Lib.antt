@@ -1,1 +1,1 @@
-pub mod BenchSheet
+pub mod Kept

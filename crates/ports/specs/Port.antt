@@ -65,11 +65,11 @@ unfoldable pub oneIf : Bool → ℕ
 oneIf true = 1
 oneIf false = 0
 
-abbrev pub drawingB : Work → Bool
-drawingB Idle = false
-drawingB (Figure k d) = true
-drawingB (Character row column start) = true
-drawingB (Reading i t) = false
+abbrev pub figureInProgressB : Work → Bool
+figureInProgressB Idle = false
+figureInProgressB (Figure k d) = true
+figureInProgressB (Character row column start) = true
+figureInProgressB (Reading i t) = false
 
 abbrev pub readModeB : Mode → Bool
 readModeB Write = false
@@ -79,7 +79,7 @@ readModeB Read = true
 -- read 0"
 unfoldable pub statusOf : Registers → ℕ
 statusOf r =
-    128 * oneIf (r .pen .set) + 8 * oneIf (drawingB (r .work)) + 4 * oneIf (eqb (r .buffer .count) 0)
+    128 * oneIf (r .pen .set) + 8 * oneIf (figureInProgressB (r .work)) + 4 * oneIf (eqb (r .buffer .count) 0)
     + 2 * oneIf (eqb (r .buffer .count) 16) + oneIf (readModeB (r .mode) && ltb 0 (r .buffer .count))
 
 unfoldable pub statusRead : Registers → Answer

@@ -18,7 +18,7 @@ ghost use Rattle.ports.specs.Port.{
   byteIn,
   byteRead,
   oneIf,
-  drawingB,
+  figureInProgressB,
   readModeB,
   statusOf,
   statusRead,
@@ -168,8 +168,8 @@ pub fn read_byte(r: Registers) -> Answer
 }
 
 // A figure is in progress.
-fn is_drawing(w: Work) -> bool
-    ensures { λ t. ⌜ t ≡ drawingB w ⌝ }
+fn figure_in_progress(w: Work) -> bool
+    ensures { λ t. ⌜ t ≡ figureInProgressB w ⌝ }
 {
     match w {
         Work::Idle => false,
@@ -211,7 +211,7 @@ fn status_of(r: Registers) -> u8
     let work = r.work;
     let mode = r.mode;
     let pen = one_if(r.pen.set) as u16;
-    let drawing = one_if(is_drawing(work)) as u16;
+    let drawing = one_if(figure_in_progress(work)) as u16;
     let empty = one_if(r.buffer.count == 0) as u16;
     let full = one_if(r.buffer.count == 16) as u16;
     let ready = one_if(is_read(mode) & (0 < r.buffer.count)) as u16;

@@ -1,3 +1,4 @@
 pub mod BoolLaws
 pub mod BufferLaws
+pub mod HeldLaws
 pub mod SizeLaws

@@ -15,7 +15,8 @@ pushed b e = cond (ltb (b .count) 16) (record { entries = set (b .entries) (b .c
 unfoldable pub oldest : Buffer → ℕ
 oldest b = getD (b .entries) 0 0
 
--- .. and the buffer without it; freed places hold 0
+-- .. and the buffer without it: the others move up by one place, with a 0 behind. After the last entry it is the empty buffer, whatever
+-- stood in the places past it; a set that is given may have anything there.
 unfoldable pub popped : Buffer → Buffer
 popped b =
     cond (leb (b .count) 1) emptyBuffer (record { entries = drop 1 (b .entries) ++ 0 ∷ []; count = b .count - 1 })

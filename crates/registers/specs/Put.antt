@@ -1,18 +1,17 @@
--- The register set with one register changed; all others stay.
+-- The register set with one register changed; all others stay. Written by tools/put from the structs of src/lib.rt.
 use Prim.Native.Nat.{ℕ}
 use mathlib.Core.Bool.{Bool}
 use mathlib.Core.List.{List}
 use Rattle.dots.specs.declared.Cursor.{Cursor}
 use Rattle.dots.specs.declared.Operation.{Operation}
-use Rattle.registers.specs.declared.Mode.{Mode}
-use Rattle.registers.specs.declared.Work.{Work}
-use Rattle.registers.specs.declared.Drawing.{Drawing}
-use Rattle.registers.specs.declared.Video.{Video}
-use Rattle.registers.specs.declared.Pen.{Pen}
 use Rattle.registers.specs.declared.Buffer.{Buffer}
-use Rattle.registers.specs.declared.Command.{Command}
+use Rattle.registers.specs.declared.Drawing.{Drawing}
+use Rattle.registers.specs.declared.Mode.{Mode}
+use Rattle.registers.specs.declared.Pen.{Pen}
 use Rattle.registers.specs.declared.Progress.{Progress}
 use Rattle.registers.specs.declared.Registers.{Registers}
+use Rattle.registers.specs.declared.Video.{Video}
+use Rattle.registers.specs.declared.Work.{Work}
 
 abbrev pub putCursor : Registers → Cursor → Registers
 putCursor r x =
@@ -63,19 +62,20 @@ putDrawing r x =
     }
 
 abbrev pub putOp : Registers → Operation → Registers
-putOp r x = record {
-  cursor = r .cursor;
-  pitch = r .pitch;
-  drawing = r .drawing;
-  op = x;
-  ram = r .ram;
-  video = r .video;
-  pen = r .pen;
-  mode = r .mode;
-  buffer = r .buffer;
-  progress = r .progress;
-  work = r .work;
-}
+putOp r x =
+    record {
+      cursor = r .cursor;
+      pitch = r .pitch;
+      drawing = r .drawing;
+      op = x;
+      ram = r .ram;
+      video = r .video;
+      pen = r .pen;
+      mode = r .mode;
+      buffer = r .buffer;
+      progress = r .progress;
+      work = r .work;
+    }
 
 abbrev pub putRam : Registers → List ℕ → Registers
 putRam r x =

@@ -4,12 +4,22 @@ use mathlib.Core.Path.{_≡_}
 use mathlib.Core.List.{List}
 use Prim.Native.Nat.{ℕ, _<_}
 use lib.ListN.{length, getD}
+use Rattle.registers.specs.declared.Work.{Work}
+use Rattle.registers.specs.declared.Work.the-variants.{Idle, Figure, Character, Reading}
 use Rattle.registers.specs.declared.Registers.{Registers}
+
+-- the mask with which a character's row started; the next row starts from it
+abbrev pub StartFits : Work → Type 0
+StartFits Idle = Unit {0}
+StartFits (Figure k d) = Unit {0}
+StartFits (Character row column start) = start .mask < 65536
+StartFits (Reading item t) = Unit {0}
 
 pub record Typed (r : Registers) : Type 0 where
   pub mask : r .cursor .mask < 65536
   pub ram : length (r .ram) ≡ 16
   pub entries : length (r .buffer .entries) ≡ 16
+  pub start : StartFits (r .work)
 
 -- each word has 16 bits
 pub record Words (m : List ℕ) : Type 0 where

@@ -17,7 +17,7 @@ use Rattle.registers.specs.Typed.{Typed}
 use Rattle.processor.specs.Entry.{entryTaken}
 use Rattle.units.specs.Run.{reasonOf, unitsDone}
 use Rattle.ports.specs.Port.{queued}
-use Rattle.laws.proofs.KeptLaws.{Lawful, lawful-idle, lawful-sound, buffer-kept}
+use Rattle.laws.proofs.KeptLaws.{Lawful, lawful, lawful-sound, buffer-kept}
 use Rattle.laws.proofs.KeptBufferLaws.{empty-queue, pushed-queue}
 use Rattle.laws.proofs.KeptProcessorLaws.{entry-kept}
 use Rattle.laws.proofs.KeptUnitLaws.{units-kept}
@@ -30,7 +30,7 @@ pub record Waiting (r : Registers) : Type 0 where
   pub empty : r .buffer .count ≡ 0
 
 pub waiting : (r : Registers) → Ready r → Typed r → Waiting r
-waiting r v t = record { lawful = lawful-idle r (v .sound) t (v .idle); mode = v .mode; idle = v .idle; empty = v .empty }
+waiting r v t = record { lawful = lawful r (v .sound) t; mode = v .mode; idle = v .idle; empty = v .empty }
 
 pub waiting-ready : {r : Registers} → Waiting r → Ready r
 waiting-ready {r} v = record { sound = lawful-sound r (v .lawful); mode = v .mode; empty = v .empty; idle = v .idle }

@@ -4,11 +4,8 @@ use borrow.Author.Needs.{needs}
 use Rattle.entries.proofs.put_record.Statement.{statement}
 use Rattle.entries.proofs.put_record.Tie as tie
 
-op-number-requires : tie.Need-op-number-requires
-op-number-requires c κs = search needs
-
-add-store : tie.Need-add-store
-add-store c = search needs
+wdat-requires : tie.Need-wdat-requires
+wdat-requires c κs = search needs
 
 store-requires : tie.Need-store-requires
 store-requires c κs = search needs
@@ -27,7 +24,7 @@ same-length c = search needs
 
 returns : tie.Need-returns
 returns c =
-    record-put _ _ _ _ _ (c .before .before .before .before .before .before .before .before .op-number .ensures .0)
+    record-put _ _ _ _ _ (c .before .before .before .before .before .before .before .before .wdat .ensures)
     (c .before .before .before .plain-of .ensures)
     (c .before .before .before .before .before .before .before .store .ensures) (c .before .before .put-figure .ensures)
 
@@ -35,8 +32,7 @@ pub put-record-spec : {M : Type 1} → statement M
 put-record-spec =
     tie.close
     (tie.spec
-    op-number-requires
-    add-store
+    wdat-requires
     store-requires
     add-put-figure
     plain-of-requires

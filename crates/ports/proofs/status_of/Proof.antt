@@ -12,8 +12,8 @@ one-if-requires c κs = search needs
 cast-pen : tie.Need-cast-pen
 cast-pen c = search needs
 
-is-drawing-requires : tie.Need-is-drawing-requires
-is-drawing-requires c κs = search needs
+figure-in-progress-requires : tie.Need-figure-in-progress-requires
+figure-in-progress-requires c κs = search needs
 
 one-if-requires-2 : tie.Need-one-if-requires-2
 one-if-requires-2 c κs = search needs
@@ -82,7 +82,7 @@ unfolding statusOf
 returns c = rw (
   c .before .before .before .before .before .before .before .before .before .one-if .ensures,
   c .before .before .before .before .before .before .before .one-if2 .ensures,
-  c .before .before .before .before .before .before .before .before .is-drawing .ensures,
+  c .before .before .before .before .before .before .before .before .figure-in-progress .ensures,
   c .before .before .before .before .before .one-if3 .ensures,
   c .before .before .before .one-if4 .ensures,
   c .one-if5 .ensures,
@@ -95,7 +95,7 @@ status-of-spec =
     (tie.spec
     one-if-requires
     cast-pen
-    is-drawing-requires
+    figure-in-progress-requires
     one-if-requires-2
     cast-drawing
     one-if-requires-3

@@ -1,10 +1,10 @@
--- `pattern_at` is the definition: a shift by k is a division by 2^k.
+-- `pattern_of` is the definition: a shift by k is a division by 2^k.
 use Rattle.figures.specs.Figure.{patternOf}
 use Rattle.dots.specs.Bit.{bit}
 use mathlib.Core.Path.{refl}
 use borrow.Author.Needs.{needs}
-use Rattle.figures.proofs.figure.pattern_at.Statement.{statement}
-use Rattle.figures.proofs.figure.pattern_at.Tie as tie
+use Rattle.figures.proofs.figure.pattern_of.Statement.{statement}
+use Rattle.figures.proofs.figure.pattern_of.Tie as tie
 
 mul-word : tie.Need-mul-word
 mul-word c = search needs
@@ -25,5 +25,5 @@ returns : tie.Need-returns
 unfolding patternOf bit
 returns c = refl
 
-pub pattern-at-spec : {M : Type 1} → statement M
-pattern-at-spec = tie.close (tie.spec mul-word add-word shr-result mul-result cast-result returns)
+pub pattern-of-spec : {M : Type 1} → statement M
+pattern-of-spec = tie.close (tie.spec mul-word add-word shr-result mul-result cast-result returns)

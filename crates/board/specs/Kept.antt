@@ -1,0 +1,18 @@
+-- Demand 1, of the board call: "A sound set stays sound." Whatever the contract of `board_run` lets stand behind the reference is sound, if
+-- what stood there before was. What the types say comes as premises, as in crate laws, `EveryEntryKeepsSound`.
+use mathlib.Core.Path.{_≡_}
+use mathlib.Core.Bool.{true}
+use mathlib.Core.List.{List}
+use Prim.Native.Nat.{ℕ}
+use Rattle.registers.specs.declared.Registers.{Registers}
+use Rattle.registers.specs.Sound.{soundB}
+use Rattle.registers.specs.State.{state}
+use Rattle.registers.specs.Typed.{Typed, Words}
+use Rattle.units.specs.Run.{runDone}
+use Rattle.board.specs.declared.Report.{Report}
+use Rattle.board.specs.Board.{report}
+
+abbrev pub BoardCallKeepsSound : Type 0
+BoardCallKeepsSound =
+    (budget : ℕ) (r left : Registers) (m after : List ℕ) (q : Report) → report q left after ≡ runDone budget (state r m)
+    → Typed r → Words m → soundB r ≡ true → (soundB left ≡ true) × Typed left
