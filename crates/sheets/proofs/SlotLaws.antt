@@ -53,7 +53,7 @@ module _ (s : List ℕ) (m : Room) (k : ℕ) where
   unfolding slotRefusal sized
   measure-good {r = r} u e g q = let z : sizeOf r + 0 ≡ sizeOf r = omega arith in rw (good u e g, u, ← e, g, q, z)
 
-size-small : (f : Figure) → figureSize f ≤ 21
+size-small : (f : Figure) → figureSize f ≤ 20
 size-small (Dot a) = omega arith
 size-small (Line a b) = omega arith
 size-small (Rectangle a b) = omega arith
