@@ -1,5 +1,6 @@
 -- Demand 3 of the function that draws a sheet: what its own answer says of the picture. `sheet-is-drawn` and `ready-sheet-is-drawn` of
--- proofs/Right.antt prove the last two definitions of this file from the function's contract and from demand's `picture-is-right`.
+-- proofs/Right.antt, and `zero-is-drawn` of proofs/Zero.antt, prove the last three definitions of this file from the function's contract
+-- and from demand's `picture-is-right`.
 use mathlib.Core.Path.{_≡_}
 use mathlib.Core.Bool.{true}
 use mathlib.Core.List.{List}
@@ -62,3 +63,10 @@ ReadySheetIsDrawn =
     → translateDef sheet p h glyphs entries .answer .number ≡ 0 → Bytes glyphs
     → Ready r → Typed r → lengthB (length mem) ≡ true → p * h ≤ length mem
     → Right p h glyphs (figuresOf sheet p h glyphs) r mem q out drawn
+
+-- .. and 0 is answered nowhere else: where it is, no entry was refused, and the picture is drawn
+abbrev pub ZeroIsDrawn : Type 0
+ZeroIsDrawn =
+    (sheet : List ℕ) (p h : ℕ) (glyphs : List ℕ) (r : Registers) (entries mem : List ℕ) (q : Drawn) (out drawn : List ℕ)
+    → outcome q out drawn ≡ sheetDrawn sheet p h glyphs r entries mem → q .number ≡ 0 → Bytes glyphs → Typed r → Words mem
+    → Right p h glyphs (figuresOf sheet p h glyphs) (finished (state r mem) .sent .regs) (finished (state r mem) .mem) q out drawn

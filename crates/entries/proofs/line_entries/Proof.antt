@@ -58,14 +58,14 @@ cast-t22 c = search needs
 cast-t24 : tie.Need-cast-t24
 cast-t24 c = search needs
 
-cast-t26 : tie.Need-cast-t26
-cast-t26 c = search needs
+cast-t27 : tie.Need-cast-t27
+cast-t27 c = search needs
 
 cast-t29 : tie.Need-cast-t29
 cast-t29 c = search needs
 
-cast-t31 : tie.Need-cast-t31
-cast-t31 c = search needs
+cast-t32 : tie.Need-cast-t32
+cast-t32 c = search needs
 
 mul-t33 : tie.Need-mul-t33
 mul-t33 c = search needs
@@ -73,8 +73,8 @@ mul-t33 c = search needs
 cast-t35 : tie.Need-cast-t35
 cast-t35 c = search needs
 
-mul-t35 : tie.Need-mul-t35
-mul-t35 c = search needs
+mul-t36 : tie.Need-mul-t36
+mul-t36 c = search needs
 
 cast-t39 : tie.Need-cast-t39
 cast-t39 c = search needs
