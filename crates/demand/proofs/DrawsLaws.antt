@@ -42,7 +42,7 @@ pub record Draws (p h : ℕ) (op : Operation) (on : Shape) (ink : Picture) (s : 
   pub leads : Leads s l n after
   pub waits : Waiting (after .regs)
   pub pitch : after .regs .pitch ≡ p
-  pub op : after .regs .op ≡ op
+  pub keeps : after .regs .op ≡ op
   pub drawn : Drawn p h op on ink (s .mem) (after .mem)
 
 pub leads-count : {s s′ : State} {l : List ℕ} {m n : ℕ} → Leads s l m s′ → m ≡ n → Leads s l n s′
@@ -58,7 +58,7 @@ draws-as same e d =
       leads = leads-count (d .leads) e;
       waits = d .waits;
       pitch = d .pitch;
-      op = d .op;
+      keeps = d .keeps;
       drawn = drawn-as same (d .drawn);
     }
 
@@ -72,7 +72,7 @@ draws-both apart d e =
       leads = leads-then (d .leads) (e .leads);
       waits = e .waits;
       pitch = e .pitch;
-      op = e .op;
+      keeps = e .keeps;
       drawn = drawn-both apart (d .drawn) (e .drawn);
     }
 
@@ -96,7 +96,7 @@ module _ (p h : ℕ) (sized : Sized p h) (s : State) (held : Held p h s) (op : O
             (figd-draws (tail .waits) n all (s .mem) (held .lawful) (omega arith)))) (omega arith);
         waits = figd-waits (tail .waits) n all (s .mem);
         pitch = held .pitch;
-        op = is;
+        keeps = is;
         drawn = subst (λ (o : Operation). Drawn p h op on solid (s .mem) (made o (s .regs .pitch))) (sym is)
             (subst (λ (k : ℕ). Drawn p h op on solid (s .mem) (made op k)) (sym (held .pitch))
             (geometry ones (λ j k. pattern-ones (s .regs .ram) (held .waits .lawful .ram) j k)));

@@ -143,6 +143,6 @@ module _ (p h : ℕ) (sized : Sized p h) (s : State) (held : Held p h s) (op : O
         (omega (arith, some-dots g pos));
     waits = gchrd-waits (acts .waits) some last all (s .mem);
     pitch = held .pitch;
-    op = is;
+    keeps = is;
     drawn = subst (Drawn p h op (squareOn (a .x) (a .y) g) (glyphInk t n (a .x) (a .y) g) (s .mem)) (sym leaves) is-glyph;
   }

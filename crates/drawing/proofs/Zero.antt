@@ -55,11 +55,17 @@ module _ (sheet : List ℕ) (p h : ℕ) (glyphs : List ℕ) (r : Registers) (ent
 
 -- a picture of lawful size that is not larger than the memory fits it; one of no words or lines does too
 roomy : (p h n : ℕ) → p < 256 → h ≤ 4096 → p * h ≤ 262144 → largerB p h n ≡ false → p * h ≤ n
-roomy zero h n w t a e = omega arith
-roomy (suc p) zero n w t a e = let z : suc p * 0 ≡ 0 = omega arith in omega arith
-roomy (suc p) (suc h) n w t a e =
+roomy zero h n wide tall area e = omega arith
+roomy (suc p) zero n wide tall area e = let z : suc p * 0 ≡ 0 = omega arith in omega arith
+roomy (suc p) (suc h) n wide tall area e =
     let lawful : planeB (suc p) (suc h) ≡ true =
-    rw (le-leb (suc p) 255 (omega arith), le-leb (suc h) 4096 t, le-leb (suc p * suc h) 262144 a) in
+    rw (
+      le-leb 1 (suc p) (omega arith),
+      le-leb (suc p) 255 (omega arith),
+      le-leb 1 (suc h) (omega arith),
+      le-leb (suc h) 4096 tall,
+      le-leb (suc p * suc h) 262144 area,
+    ) in
     ltb-false n (suc p * suc h) (ap (λ (b : Bool). b && ltb n (suc p * suc h)) (sym lawful) ∙ e)
 
 pub zero-is-drawn : ZeroIsDrawn
