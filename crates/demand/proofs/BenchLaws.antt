@@ -26,7 +26,7 @@ use Rattle.laws.proofs.SoundLaws.{fresh-sound, fresh-typed}
 use Rattle.demand.specs.Picture.{figuresMade, figuresDots}
 use Rattle.demand.specs.Shown.{Shown}
 use Rattle.sending.proofs.WaitLaws.{waiting}
-use Rattle.demand.proofs.Whole.{shown, whole}
+use Rattle.demand.proofs.Whole.{shown, picture-is-right}
 
 pub fresh-ready : Ready freshSet
 unfolding freshSet
@@ -49,7 +49,7 @@ lawful = rw long refl
 
 pub bench-shown : Shown 40 400 [] (figuresOf sheet 40 400 []) (take 13 (listing ++ 7 ∷ 7 ∷ [])) (state freshSet zeros)
 bench-shown =
-    whole sheet 40 400 [] (replicate 15 7) (listing ++ 7 ∷ 7 ∷ []) (answer 0 13 0)
+    picture-is-right sheet 40 400 [] (replicate 15 7) (listing ++ 7 ∷ 7 ∷ []) (answer 0 13 0)
     (sym (first-of _ _ (outcome (answer 0 0 0) []) bench)) refl (λ j. omega arith) freshSet zeros fresh-ready fresh-typed lawful
     (omega (arith, long))
 

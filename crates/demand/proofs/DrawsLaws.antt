@@ -1,9 +1,10 @@
--- A figure that FIGD draws, from its first entry to its last dot: if the walk of its registers changes a shape of the plane once,
--- as geometry shows of dots, lines and rectangles, then its entries are accepted and change just that shape. A dot is the first case.
+-- A figure that FIGD draws, from CURS to its last dot, the operation being set: if the walk of its registers changes a shape of the
+-- plane once, as geometry shows of dots, lines and rectangles, then its entries are accepted and change just that shape. A dot is the
+-- first case. Shapes that have no dot in common, drawn one after the other, are one shape.
 use mathlib.Core.Path.{_≡_, refl, sym, subst}
-use mathlib.Core.Bool.{true}
+use mathlib.Core.Bool.{true, false}
 use mathlib.Core.List.{List, [], _∷_, _++_}
-use Prim.Native.Nat.{ℕ, suc, _*_, _%_, _≤_, _<_}
+use Prim.Native.Nat.{ℕ, suc, _+_, _*_, _%_, _≤_, _<_}
 use native.Mathlib.Omega.{arith}
 use lib.ListN.{length, set}
 use Rattle.dots.specs.declared.Operation.{Operation}
@@ -12,7 +13,7 @@ use Rattle.dots.specs.Dot.{cursorAt}
 use Rattle.dots.proofs.DotLaws.{address}
 use Rattle.geometry.specs.Plane.{InPlane, Picture, Shape, solid, dotOn}
 use Rattle.geometry.proofs.WalkLaws.{Sized, walk}
-use Rattle.geometry.proofs.CycleLaws.{cycles, Drawn, drawn-as}
+use Rattle.geometry.proofs.CycleLaws.{cycles, Drawn, drawn-as, eitherOn, drawn-both}
 use Rattle.geometry.proofs.FigureLaws.{dot-drawn}
 use Rattle.records.specs.declared.Point.{Point}
 use Rattle.entries.specs.Entries.{headEntries, dotEntries}
@@ -41,6 +42,7 @@ pub record Draws (p h : ℕ) (op : Operation) (on : Shape) (ink : Picture) (s : 
   pub leads : Leads s l n after
   pub waits : Waiting (after .regs)
   pub pitch : after .regs .pitch ≡ p
+  pub keeps : after .regs .op ≡ op
   pub drawn : Drawn p h op on ink (s .mem) (after .mem)
 
 pub leads-count : {s s′ : State} {l : List ℕ} {m n : ℕ} → Leads s l m s′ → m ≡ n → Leads s l n s′
@@ -51,20 +53,41 @@ pub draws-as : {p h : ℕ} {op : Operation} {on on′ : Shape} {ink : Picture} {
     → ((x y : ℕ) → on x y ≡ on′ x y) → m ≡ n
     → Draws p h op on ink s l m → Draws p h op on′ ink s l n
 draws-as same e d =
-    record { after = d .after; leads = leads-count (d .leads) e; waits = d .waits; pitch = d .pitch; drawn = drawn-as same (d .drawn) }
+    record {
+      after = d .after;
+      leads = leads-count (d .leads) e;
+      waits = d .waits;
+      pitch = d .pitch;
+      keeps = d .keeps;
+      drawn = drawn-as same (d .drawn);
+    }
 
-module _ (p h : ℕ) (sized : Sized p h) (s : State) (held : Held p h s) (op : Operation) (a : Point)
+-- two shapes that have no dot in common, one after the other
+pub draws-both : {p h : ℕ} {op : Operation} {a b : Shape} {ink : Picture} {s : State} {l k : List ℕ} {m n : ℕ}
+    → ((x y : ℕ) → a x y ≡ true → b x y ≡ false) → (d : Draws p h op a ink s l m) → Draws p h op b ink (d .after) k n
+    → Draws p h op (eitherOn a b) ink s (l ++ k) (m + n)
+draws-both apart d e =
+    record {
+      after = e .after;
+      leads = leads-then (d .leads) (e .leads);
+      waits = e .waits;
+      pitch = e .pitch;
+      keeps = e .keeps;
+      drawn = drawn-both apart (d .drawn) (e .drawn);
+    }
+
+module _ (p h : ℕ) (sized : Sized p h) (s : State) (held : Held p h s) (op : Operation) (is : s .regs .op ≡ op) (a : Point)
     (inside : InPlane p h (a .x) (a .y)) where
   -- the registers before FIGS
   abbrev pub base : Registers
-  base = aimed (s .regs) op (cursorAt (address p (a .x) (a .y)))
+  base = aimed (s .regs) (cursorAt (address p (a .x) (a .y)))
 
   -- the entries of FIGS set f; n + 1 dots
   pub figd-law : (figs : List ℕ) (f : Drawing) (i n : ℕ) (on : Shape) → (Waiting base → Acts base figs (drawingSet base f i))
       → suc n ≡ dotsOf f → n < 65536
       → ((t : ℕ → ℕ) → ((j k : ℕ) → bit (k % 16) (t j) ≡ 1)
       → Drawn p h op on solid (s .mem) (cycles op t (walk (stepAt f) p (cursorAt (address p (a .x) (a .y)))) (suc n) (s .mem)))
-      → Draws p h op on solid s (headEntries op p a ++ figs ++ 0x16C ∷ []) (suc n)
+      → Draws p h op on solid s (headEntries p a ++ figs ++ 0x16C ∷ []) (suc n)
   figd-law figs f i n on sets all few geometry =
       record {
         after = ended (figd (drawingSet base f i)) (s .mem) n;
@@ -73,13 +96,14 @@ module _ (p h : ℕ) (sized : Sized p h) (s : State) (held : Held p h s) (op : O
             (figd-draws (tail .waits) n all (s .mem) (held .lawful) (omega arith)))) (omega arith);
         waits = figd-waits (tail .waits) n all (s .mem);
         pitch = held .pitch;
-        drawn = subst (λ (k : ℕ). Drawn p h op on solid (s .mem)
-            (cycles op ones (walk (stepAt f) k (cursorAt (address p (a .x) (a .y)))) (suc n) (s .mem))) (sym (held .pitch))
-            (geometry ones (λ j k. pattern-ones (s .regs .ram) (held .waits .lawful .ram) j k));
+        keeps = is;
+        drawn = subst (λ (o : Operation). Drawn p h op on solid (s .mem) (made o (s .regs .pitch))) (sym is)
+            (subst (λ (k : ℕ). Drawn p h op on solid (s .mem) (made op k)) (sym (held .pitch))
+            (geometry ones (λ j k. pattern-ones (s .regs .ram) (held .waits .lawful .ram) j k)));
       }
     where
-      head : Acts (s .regs) (headEntries op p a) base
-      head = acts-head p h (sized .area) a inside op (held .waits)
+      head : Acts (s .regs) (headEntries p a) base
+      head = acts-head p h (sized .area) a inside (held .waits)
 
       tail : Acts base figs (drawingSet base f i)
       tail = sets (head .waits)
@@ -87,7 +111,10 @@ module _ (p h : ℕ) (sized : Sized p h) (s : State) (held : Held p h s) (op : O
       ones : ℕ → ℕ
       ones = patternAt (set (set (s .regs .ram) 8 255) 9 255)
 
-  pub dot-law : Draws p h op (dotOn (a .x) (a .y)) solid s (dotEntries op p a) 1
+      made : Operation → ℕ → List ℕ
+      made o k = cycles o ones (walk (stepAt f) k (cursorAt (address p (a .x) (a .y)))) (suc n) (s .mem)
+
+  pub dot-law : Draws p h op (dotOn (a .x) (a .y)) solid s (dotEntries p a) 1
   unfolding dotEntries dotsOf
   dot-law =
       figd-law (0x14C ∷ 0x02 ∷ [])

@@ -1,4 +1,4 @@
--- What every figure's entries begin with: WDAT sets the operation, CURS goes to the figure's first dot, and PRAM sets a pattern of
+-- What a record's entries begin with: WDAT sets the operation, CURS goes to the figure's first dot, and PRAM sets a pattern of
 -- ones. After them nothing of the controller's earlier mask, address, operation or pattern is left.
 use mathlib.Core.Path.{_≡_, ap}
 use mathlib.Core.List.{List, [], _∷_}
@@ -56,16 +56,15 @@ module _ (p h : ℕ) (area : p * h ≤ 262144) (a : Point) (inside : InPlane p h
       acts-as (acts-curs v (eadOf p a) (a .x) (omega arith))
       (ap (λ (c : Cursor). putProgress (putCursor (drained r) c) (progress Curs 3)) (cursor-is p a))
 
--- the operation, the first dot and the pattern are set
-abbrev pub aimed : Registers → Operation → Cursor → Registers
-aimed r op c = putProgress (putRam (putCursor (putOp (drained r) op) c) (set (set (r .ram) 8 255) 9 255)) (progress Pram 10)
+-- the first dot and the pattern are set
+abbrev pub aimed : Registers → Cursor → Registers
+aimed r c = putProgress (putRam (putCursor (drained r) c) (set (set (r .ram) 8 255) 9 255)) (progress Pram 10)
 
-pub acts-head : (p h : ℕ) → p * h ≤ 262144 → (a : Point) → InPlane p h (a .x) (a .y) → (op : Operation) → {r : Registers} → Waiting r
-    → Acts r (headEntries op p a) (aimed r op (cursorAt (address p (a .x) (a .y))))
-acts-head p h area a inside op v =
-    let first = acts-wdat v op in
-    let second = acts-cursor p h area a inside (first .waits) in
-    acts-then first (acts-then second (acts-ones (second .waits)))
+pub acts-head : (p h : ℕ) → p * h ≤ 262144 → (a : Point) → InPlane p h (a .x) (a .y) → {r : Registers} → Waiting r
+    → Acts r (headEntries p a) (aimed r (cursorAt (address p (a .x) (a .y))))
+acts-head p h area a inside v =
+    let first = acts-cursor p h area a inside v in
+    acts-then first (acts-ones (first .waits))
 
 -- the pattern is all ones
 ones : (k : ℕ) → bit (k % 16) 65535 ≡ 1

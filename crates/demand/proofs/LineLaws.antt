@@ -1,6 +1,6 @@
 -- A line, from its first entry to its last dot: nine bytes of FIGS set DIR, N, D, D2 and D1; they fit an octant, whatever the ends;
 -- and the controller's walk is then the line that 01 says.
-use mathlib.Core.Path.{refl, subst}
+use mathlib.Core.Path.{_≡_, refl, subst}
 use mathlib.Core.Bool.{false}
 use mathlib.Core.List.{List, _∷_, _++_}
 use Prim.Native.Nat.{ℕ, suc, _+_, _*_, _<_}
@@ -37,7 +37,7 @@ lineDrawing dir n m =
       dm = 16383;
     }
 
-module _ (p h : ℕ) (sized : Sized p h) (s : State) (held : Held p h s) (op : Operation) (a b : Point)
+module _ (p h : ℕ) (sized : Sized p h) (s : State) (held : Held p h s) (op : Operation) (is : s .regs .op ≡ op) (a b : Point)
     (ia : InPlane p h (a .x) (a .y)) (ib : InPlane p h (b .x) (b .y)) where
   abbrev k : Slope
   k = slopeOf a b
@@ -55,8 +55,8 @@ module _ (p h : ℕ) (sized : Sized p h) (s : State) (held : Held p h s) (op : O
   figs = 0x14C ∷ (8 + k .dir) ∷ both (k .major) ++ both (minus14 (2 * k .minor) (k .major)) ++ both
       (minus14 (2 * k .minor) (2 * k .major)) ++ both (2 * k .minor)
 
-  sets : Waiting (base p h sized s held op a ia) → Acts (base p h sized s held op a ia) figs
-      (drawingSet (base p h sized s held op a ia) (lineDrawing (k .dir) (k .major) (k .minor)) 9)
+  sets : Waiting (base p h sized s held op is a ia) → Acts (base p h sized s held op is a ia) figs
+      (drawingSet (base p h sized s held op is a ia) (lineDrawing (k .dir) (k .major) (k .minor)) 9)
   sets w =
       let first = acts-figs w (8 + k .dir) 1 (k .dir) (omega (arith, small)) (omega (arith, small)) (omega (arith, small)) in
       let dc = sends-dc (first .waits) (k .major) (omega (arith, n-lt)) refl in
@@ -65,10 +65,10 @@ module _ (p h : ℕ) (sized : Sized p h) (s : State) (held : Held p h s) (op : O
       acts-then first
       (acts-then dc (acts-then d (acts-then d2 (sends-d1 (d2 .waits) (2 * k .minor) (omega (arith, n-lt, v .octant .le)) refl))))
 
-  pub line-law : Draws p h op (lineOn (a .x) (a .y) (b .x) (b .y)) solid s (lineEntries op p a b) (suc (k .major))
+  pub line-law : Draws p h op (lineOn (a .x) (a .y) (b .x) (b .y)) solid s (lineEntries p a b) (suc (k .major))
   unfolding lineEntries dotsOf
   line-law =
-      figd-law p h sized s held op a ia figs (lineDrawing (k .dir) (k .major) (k .minor)) 9 (k .major)
+      figd-law p h sized s held op is a ia figs (lineDrawing (k .dir) (k .major) (k .minor)) 9 (k .major)
       (lineOn (a .x) (a .y) (b .x) (b .y)) sets (omega arith) (omega (arith, n-lt))
       (λ t ones. line-drawn (v .octant) op p h sized (s .mem) (held .room) ia ib (k .dir)
       (v .dir) t _ (cursorAt (address p (a .x) (a .y))) refl (λ i j l. ones i j)

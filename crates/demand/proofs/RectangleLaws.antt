@@ -41,7 +41,7 @@ side-steps : (w g i : ℕ) → stepAt (rectangleDrawing w g) i ≡ sideDirs g w 
 unfolding directionAt sideOf sideDirs
 side-steps w g i = ap (λ (k : ℕ). k % 8) (omega arith) ∙ mod-eq-of-lt (side-lt g w i)
 
-module _ (p h : ℕ) (sized : Sized p h) (s : State) (held : Held p h s) (op : Operation) (a b : Point)
+module _ (p h : ℕ) (sized : Sized p h) (s : State) (held : Held p h s) (op : Operation) (is : s .regs .op ≡ op) (a b : Point)
     (ia : InPlane p h (a .x) (a .y)) (ib : InPlane p h (b .x) (b .y)) (wide : a .x < b .x) (tall : a .y < b .y) where
   abbrev w : ℕ
   w = distance (a .x) (b .x)
@@ -58,8 +58,8 @@ module _ (p h : ℕ) (sized : Sized p h) (s : State) (held : Held p h s) (op : O
   abbrev figs : List ℕ
   figs = 0x14C ∷ 0x40 ∷ both 3 ++ both g ++ both w ++ 0xFF ∷ 0x3F ∷ both g
 
-  sets : Waiting (base p h sized s held op a ia) → Acts (base p h sized s held op a ia) figs
-      (drawingSet (base p h sized s held op a ia) (rectangleDrawing w g) 11)
+  sets : Waiting (base p h sized s held op is a ia) → Acts (base p h sized s held op is a ia) figs
+      (drawingSet (base p h sized s held op is a ia) (rectangleDrawing w g) 11)
   sets v =
       let first = acts-figs v 0x40 8 0 (omega arith) refl refl in
       let dc = sends-dc (first .waits) 3 (omega arith) refl in
@@ -68,11 +68,11 @@ module _ (p h : ℕ) (sized : Sized p h) (s : State) (held : Held p h s) (op : O
       let d1 = sends-d1 (d2 .waits) 16383 (omega arith) refl in
       acts-then first (acts-then dc (acts-then d (acts-then d2 (acts-then d1 (sends-dm (d1 .waits) g (omega (arith, g-lt)) refl)))))
 
-  pub rectangle-law : Draws p h op (borderOn (a .x) (a .y) (b .x) (b .y)) solid s (rectangleEntries op p a w g) (2 * (w + g))
+  pub rectangle-law : Draws p h op (borderOn (a .x) (a .y) (b .x) (b .y)) solid s (rectangleEntries p a w g) (2 * (w + g))
   unfolding rectangleEntries dotsOf
   rectangle-law =
       draws-as (λ x y. ap₂ (λ (u v : ℕ). borderOn (a .x) (a .y) u v x y) (omega arith) (omega arith)) (omega arith)
-      (figd-law p h sized s held op a ia figs (rectangleDrawing w g) 11 (g + w + g + w - 1)
+      (figd-law p h sized s held op is a ia figs (rectangleDrawing w g) 11 (g + w + g + w - 1)
       (borderOn (a .x) (a .y) (a .x + w) (a .y + g)) sets (omega arith) (omega (arith, w-lt, g-lt))
       (λ t ones. rectangle-drawn op p h sized (s .mem) (held .room) (a .x) (a .y) g w (g + w + g + w - 1) (omega arith) (omega arith)
       (record { column = omega (arith, ib .column); row = omega (arith, ib .row) })

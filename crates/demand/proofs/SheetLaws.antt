@@ -23,9 +23,10 @@ use Rattle.entries.specs.Entries.{slopeOf, least, greatest, flatB, plain, figur
 use Rattle.sheets.specs.Slots.{translated}
 use Rattle.registers.specs.State.{State}
 use Rattle.sending.proofs.SendLaws.{Leads, leads-then, leads-nothing}
-use Rattle.demand.specs.Picture.{figureMade, figuresMade, figureDots, figuresDots}
+use Rattle.demand.specs.Picture.{figureOn, figureInk, figureMade, figuresMade, figureDots, figuresDots}
 use Rattle.demand.proofs.InsideLaws.{Inside, AllInside}
-use Rattle.demand.proofs.DrawsLaws.{Held, Draws, draws-as, dot-law}
+use Rattle.demand.proofs.HeadLaws.{acts-wdat}
+use Rattle.demand.proofs.DrawsLaws.{Held, Draws, leads-count, draws-as, dot-law}
 use Rattle.demand.proofs.LineLaws.{line-law}
 use Rattle.demand.proofs.RectangleLaws.{rectangle-law}
 use Rattle.demand.proofs.GlyphLaws.{glyph-law}
@@ -75,39 +76,53 @@ or-neither true b e = absurd (true≢false e)
 or-neither false b e = (refl, e)
 
 module _ (p h : ℕ) (sized : Sized p h) (t : List ℕ) (bytes : (i : ℕ) → getD t i 0 < 256) where
-  module _ (s : State) (held : Held p h s) (op : Operation) where
+  module _ (s : State) (held : Held p h s) (op : Operation) (is : s .regs .op ≡ op) where
     -- any two opposite corners: flat, or in order
     rectangle : (a b : Point) → InPlane p h (a .x) (a .y) → InPlane p h (b .x) (b .y) → (e : Bool) → flatB a b ≡ e
         → Draws p h op (borderOn (a .x) (a .y) (b .x) (b .y)) solid s
-        (figureEntries t p op (cond e (Line (least a b) (greatest a b)) (Rectangle (least a b) (greatest a b))))
+        (figureEntries t p (cond e (Line (least a b) (greatest a b)) (Rectangle (least a b) (greatest a b))))
         (cond e (max (distance (a .x) (b .x)) (distance (a .y) (b .y)) + 1) (2 * (distance (a .x) (b .x) + distance (a .y) (b .y))))
     rectangle a b ia ib true e =
         draws-as (λ u v. sym (flat-border (a .x) (a .y) (b .x) (b .y) u v e)) (flat-dots a b)
-        (line-law p h sized s held op (least a b) (greatest a b)
+        (line-law p h sized s held op is (least a b) (greatest a b)
         (record { column = omega (arith, ia .column); row = omega (arith, ia .row) })
         (record { column = omega (arith, ia .column, ib .column); row = omega (arith, ia .row, ib .row) }))
     rectangle a b ia ib false e =
         let z = or-neither (eqb (a .x) (b .x)) (eqb (a .y) (b .y)) e in
         draws-as (λ u v. sym (border-ordered (a .x) (a .y) (b .x) (b .y) u v))
         (ap₂ (λ (x y : ℕ). 2 * (x + y)) (ordered-distance (a .x) (b .x)) (ordered-distance (a .y) (b .y)))
-        (rectangle-law p h sized s held op (least a b) (greatest a b)
+        (rectangle-law p h sized s held op is (least a b) (greatest a b)
         (record { column = omega (arith, ia .column); row = omega (arith, ia .row) })
         (record { column = omega (arith, ia .column, ib .column); row = omega (arith, ia .row, ib .row) })
         (omega (arith, eqb-false (a .x) (b .x) (z .0))) (omega (arith, eqb-false (a .y) (b .y) (z .1))))
 
-    figure-law : (f : Figure) → Inside p h f → Makes p h (figureMade t op f) s (figureEntries t p op (plain f)) (figureDots f)
-    figure-law (Dot a) i = makes held (dot-law p h sized s held op a i)
-    figure-law (Line a b) i = makes held (draws-as (λ x y. refl) (line-dots a b) (line-law p h sized s held op a b (i .0) (i .1)))
+    figure-law : (f : Figure) → Inside p h f → Makes p h (figureMade t op f) s (figureEntries t p (plain f)) (figureDots f)
+    figure-law (Dot a) i = makes held (dot-law p h sized s held op is a i)
+    figure-law (Line a b) i = makes held (draws-as (λ x y. refl) (line-dots a b) (line-law p h sized s held op is a b (i .0) (i .1)))
     figure-law (Rectangle a b) i = makes held (rectangle a b (i .0) (i .1) (flatB a b) refl)
-    figure-law (Glyph a n g) i = makes held (glyph-law p h sized s held op t bytes a n g (i .some) (i .few) (i .right) (i .low))
+    figure-law (Glyph a n g) i = makes held (glyph-law p h sized s held op is t bytes a n g (i .some) (i .few) (i .right) (i .low))
+
+  -- ---- a record: WDAT sets the operation, then the figure
+  record-law : (s : State) → Held p h s → (r : Record) → Inside p h (r .figure)
+      → Makes p h (figureMade t (r .op) (r .figure)) s (entriesOf t p r) (figureDots (r .figure))
+  unfolding entriesOf
+  record-law s held r i =
+      let wdat = acts-wdat (held .waits) (r .op) in
+      let one = figure-law _ (record { waits = wdat .waits; pitch = held .pitch; room = held .room; lawful = held .lawful }) (r .op) refl
+      (r .figure) i in
+      record {
+        after = one .after;
+        leads = leads-count (leads-then (wdat .leads (s .mem) (held .lawful)) (one .leads)) (omega arith);
+        held = one .held;
+        long = one .long;
+        dots = one .dots;
+        words = one .words;
+      }
 
   -- ---- all figures
   -- what figures make of a dot depends on that dot alone
   figure-under : (op : Operation) (f : Figure) (a b : Picture) (x y : ℕ) → a x y ≡ b x y → figureMade t op f a x y ≡ figureMade t op f b x y
-  figure-under op (Dot c) a b x y e = changed-under op _ _ a b x y e
-  figure-under op (Line c d) a b x y e = changed-under op _ _ a b x y e
-  figure-under op (Rectangle c d) a b x y e = changed-under op _ _ a b x y e
-  figure-under op (Glyph c n g) a b x y e = changed-under op _ _ a b x y e
+  figure-under op f a b x y e = changed-under op (figureOn f) (figureInk t f) a b x y e
 
   figures-under : (l : List Record) (a b : Picture) (x y : ℕ) → a x y ≡ b x y → figuresMade t l a x y ≡ figuresMade t l b x y
   unfolding figuresMade
@@ -118,10 +133,10 @@ module _ (p h : ℕ) (sized : Sized p h) (t : List ℕ) (bytes : (i : ℕ) → g
 
   pub sheet-law : (l : List Record) → AllInside p h l → (s : State) → Held p h s
       → Makes p h (figuresMade t l) s (translated t p l) (figuresDots l)
-  unfolding figuresMade figuresDots translated entriesOf
+  unfolding figuresMade figuresDots translated
   sheet-law [] i s held = record { after = s; leads = leads-nothing s; held = held; long = refl; dots = λ x y v. refl; words = λ j k. refl }
   sheet-law (r ∷ l) i s held =
-      let one = figure-law s held (r .op) (r .figure) (i .0) in
+      let one = record-law s held r (i .0) in
       let rest = sheet-law l (i .1) (one .after) (one .held) in
       record {
         after = rest .after;

@@ -21,6 +21,7 @@ use Rattle.registers.specs.State.{State, state}
 use Rattle.units.specs.Run.{lengthB}
 use Rattle.sending.specs.Send.{Ready}
 use Rattle.sending.proofs.WaitLaws.{Waiting, waiting, waiting-ready}
+use Rattle.sending.proofs.KeptLaws.{sent-all-kept}
 use Rattle.sending.proofs.SendLaws.{leads-then}
 use Rattle.sending.proofs.GroupLaws.{acts-pitch}
 use Rattle.demand.specs.Shown.{Shown, Bytes, PictureIsRight}
@@ -28,7 +29,7 @@ use Rattle.demand.proofs.InsideLaws.{AllInside, sheet-inside}
 use Rattle.demand.proofs.SheetLaws.{sheet-law}
 
 -- the entries written are the translation
-taken-out : (o e : List ℕ) (n : ℕ) → length e ≡ n → n ≤ length o → take n (placed o 0 e) ≡ e
+pub taken-out : (o e : List ℕ) (n : ℕ) → length e ≡ n → n ≤ length o → take n (placed o 0 e) ≡ e
 taken-out o e n l h = ap (take n) (placed-is o 0 e (omega arith)) ∙ take-at e (drop (0 + length e) o) n l
 
 -- figures in the plane, from any controller that waits and any memory that holds the plane
@@ -46,11 +47,13 @@ module _ (p h : ℕ) (sized : Sized p h) (table : List ℕ) (bytes : Bytes table
         dots = λ x y i. ap (λ (s : State). dot p x y (s .mem)) (all .ends) ∙ rest .dots x y i;
         words = λ j k. ap (λ (s : State). getD (s .mem) j 0) (all .ends) ∙ rest .words j k;
         long = ap (λ (s : State). length (s .mem)) (all .ends) ∙ rest .long;
+        wide = λ k. sent-all-kept (length mem) (translation table p l) (state r mem)
+            (record { regs = v .lawful; words = k; long = refl }) .words;
         units = all .units ∙ omega arith;
       }
 
-pub whole : PictureIsRight
-whole sheet p h table out written a e z bytes r mem ready typed lawful room =
+pub picture-is-right : PictureIsRight
+picture-is-right sheet p h table out written a e z bytes r mem ready typed lawful room =
     let k = translated-means sheet p h table out e z in
     let figures = figuresOf sheet p h table in
     let is : take (a .first) written ≡ translation table p figures =

@@ -7,15 +7,25 @@ use Rattle.dots.specs.declared.Operation.{Operation}
 use Rattle.records.specs.declared.Figure.{Figure}
 use Rattle.records.specs.declared.Figure.the-variants.{Dot, Line, Rectangle, Glyph}
 use Rattle.records.specs.declared.Record.{Record}
-use Rattle.geometry.specs.Plane.{Picture, changed, solid, distance, dotOn, lineOn, borderOn, squareOn, glyphInk}
+use Rattle.geometry.specs.Plane.{Picture, Shape, changed, solid, distance, dotOn, lineOn, borderOn, squareOn, glyphInk}
 
--- "A figure changes each of its dots once, as the logic unit does with its operation and pattern bit 1"; a glyph, "the pattern bit being
--- the glyph's"
+-- the dots of a figure
+abbrev pub figureOn : Figure → Shape
+figureOn (Dot a) = dotOn (a .x) (a .y)
+figureOn (Line a b) = lineOn (a .x) (a .y) (b .x) (b .y)
+figureOn (Rectangle a b) = borderOn (a .x) (a .y) (b .x) (b .y)
+figureOn (Glyph a n g) = squareOn (a .x) (a .y) g
+
+-- what each is drawn with: "pattern bit 1"; for a glyph "the pattern bit being the glyph's"
+abbrev pub figureInk : List ℕ → Figure → Picture
+figureInk table (Dot a) = solid
+figureInk table (Line a b) = solid
+figureInk table (Rectangle a b) = solid
+figureInk table (Glyph a n g) = glyphInk table n (a .x) (a .y) g
+
+-- "A figure changes each of its dots once, as the logic unit does with its operation and pattern bit"
 abbrev pub figureMade : List ℕ → Operation → Figure → Picture → Picture
-figureMade table op (Dot a) pic = changed op (dotOn (a .x) (a .y)) solid pic
-figureMade table op (Line a b) pic = changed op (lineOn (a .x) (a .y) (b .x) (b .y)) solid pic
-figureMade table op (Rectangle a b) pic = changed op (borderOn (a .x) (a .y) (b .x) (b .y)) solid pic
-figureMade table op (Glyph a n g) pic = changed op (squareOn (a .x) (a .y) g) (glyphInk table n (a .x) (a .y) g) pic
+figureMade table op f = changed op (figureOn f) (figureInk table f)
 
 -- one after the other, each with its record's operation
 unfoldable pub figuresMade : List ℕ → List Record → Picture → Picture

@@ -1,4 +1,4 @@
--- Demand 3: the picture is what the figures say. `whole` of proofs/Whole.antt proves the last definition of this file.
+-- Demand 3: the picture is what the figures say. `picture-is-right` of proofs/Whole.antt proves the last definition of this file.
 use mathlib.Core.Path.{_≡_}
 use mathlib.Core.Bool.{true}
 use mathlib.Core.List.{List}
@@ -7,7 +7,7 @@ use lib.ListN.{length, getD, take}
 use Rattle.dots.specs.Dot.{dot}
 use Rattle.registers.specs.declared.Registers.{Registers}
 use Rattle.registers.specs.State.{State, state}
-use Rattle.registers.specs.Typed.{Typed}
+use Rattle.registers.specs.Typed.{Typed, Words}
 use Rattle.units.specs.Run.{lengthB}
 use Rattle.records.specs.declared.Record.{Record}
 use Rattle.blocks.specs.declared.Answer.{Answer}
@@ -27,6 +27,8 @@ pub record Shown (p h : ℕ) (table : List ℕ) (figures : List Record) (entries
   -- every word past the picture is unaltered, and there are as many words as before
   pub words : (j : ℕ) → p * h ≤ j → getD (sentAll s entries .mem) j 0 ≡ getD (s .mem) j 0
   pub long : length (sentAll s entries .mem) ≡ length (s .mem)
+  -- words of 16 bits stay words of 16 bits
+  pub wide : Words (s .mem) → Words (sentAll s entries .mem)
   -- the runs report one unit for each entry and one for each dot
   pub units : unitsOf s entries ≡ length entries + figuresDots figures
 

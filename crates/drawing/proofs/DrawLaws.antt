@@ -15,9 +15,9 @@ use Rattle.sheets.specs.Sheet.{answerOf, translateDef}
 use Rattle.sheets.specs.Sheet.{Outcome as Translated, outcome as translated}
 use Rattle.drawing.specs.declared.Drawn.{Drawn}
 use Rattle.sends.specs.declared.Sent.{Sent}
-use Rattle.sends.specs.Sends.{listSent}
-use Rattle.sends.specs.Sends.{outcome as sending}
-use Rattle.drawing.specs.Draw.{Outcome, outcome, refusal, allSent, drawnBy, sheetDrawn}
+use Rattle.sends.specs.Sends.{leftAt, listSent, finished}
+use Rattle.sends.specs.Sends.{Outcome as Sending, outcome as sending}
+use Rattle.drawing.specs.Draw.{Outcome, outcome, refusal, allSent, drawnBy, largerB, sheetDrawn}
 
 module _ (sheet : List ℕ) (p h : ℕ) (glyphs : List ℕ) (r : Registers) (entries mem : List ℕ) where
   abbrev all : Outcome
@@ -32,25 +32,37 @@ module _ (sheet : List ℕ) (p h : ℕ) (glyphs : List ℕ) (r : Registers) (ent
     unfolding sheetDrawn
     way-mislong l e = rw (e, s, l)
 
-    module _ (l : lengthB (length mem) ≡ true) {a : Answer} {out : List ℕ}
-        (t : translated a out ≡ translateDef sheet p h glyphs entries) where
-      past : all ≡ drawnBy a out r entries mem
+    module _ (l : lengthB (length mem) ≡ true) where
+      pub way-larger : {q : Drawn} → largerB p h (length mem) ≡ true → q ≡ refusal 23 0 0 r → outcome q entries mem ≡ all
       unfolding sheetDrawn
-      past = rw (s, l) (sym (ap (λ (x : Translated). drawnBy (x .answer) (x .out) r entries mem) t))
+      way-larger k e = rw (e, s, l, k)
 
-      -- a refused translation leaves the output as it was
-      unaltered : (a .number ≡ 0 → ⊥) → out ≡ entries
-      unfolding translateDef
-      unaltered z =
-          let e : a ≡ answerOf sheet p h glyphs (length entries) = ap (λ (x : Translated). x .answer) t in
-          ap (λ (x : Translated). x .out) t ∙ rw (← e, ne-eqb (a .number) 0 z)
+      module _ (k : largerB p h (length mem) ≡ false) {a : Answer} {out : List ℕ}
+          (t : translated a out ≡ translateDef sheet p h glyphs entries) where
+        past : all ≡ drawnBy a out r entries mem
+        unfolding sheetDrawn
+        past = rw (s, l, k) (sym (ap (λ (x : Translated). drawnBy (x .answer) (x .out) r entries mem) t))
 
-      pub way-refused : {q : Drawn} → (a .number ≡ 0 → ⊥) → q ≡ refusal (a .number) (a .first) (a .second) r → outcome q out mem ≡ all
-      way-refused z e = rw (past, e, unaltered z, ne-eqb (a .number) 0 z)
+        -- a refused translation leaves the output as it was
+        unaltered : (a .number ≡ 0 → ⊥) → out ≡ entries
+        unfolding translateDef
+        unaltered z =
+            let e : a ≡ answerOf sheet p h glyphs (length entries) = ap (λ (x : Translated). x .answer) t in
+            ap (λ (x : Translated). x .out) t ∙ rw (← e, ne-eqb (a .number) 0 z)
 
-      pub way-sent : {q : Sent} {m : List ℕ} → a .number ≡ 0 → sending q m ≡ listSent (state r mem) (take (a .first) out)
-          → outcome (record { number = 0; first = a .first; second = a .second; units = q .units; regs = q .regs }) out m ≡ all
-      way-sent z e = ap (allSent a out) e ∙ rw (past, eq-eqb (a .number) 0 z)
+        pub way-refused : {q : Drawn} → (a .number ≡ 0 → ⊥) → q ≡ refusal (a .number) (a .first) (a .second) r
+            → outcome q out mem ≡ all
+        way-refused z e = rw (past, e, unaltered z, ne-eqb (a .number) 0 z)
+
+        pub way-sent : {w q : Sent} {m n : List ℕ} → a .number ≡ 0 → sending w m ≡ finished (state r mem)
+            → sending q n ≡ listSent (state (w .regs) m) (take (a .first) out)
+            → outcome (record { number = 0; first = a .first; second = a .second; units = q .units; earlier = w .units; regs = q .regs })
+            out n
+            ≡ all
+        way-sent {w} {q} {m} {n} z f e =
+            ap (allSent a out (sending w m)) e
+            ∙ ap (λ (x : Sending). allSent a out x (listSent (leftAt x) (take (a .first) out))) f
+            ∙ rw (past, eq-eqb (a .number) 0 z)
 
   -- two allowed answers are equal, and so are the entries and the memories
   pub only : {q w : Drawn} {a b m n : List ℕ} → outcome q a m ≡ all → outcome w b n ≡ all → (q ≡ w) × (a ≡ b) × (m ≡ n)

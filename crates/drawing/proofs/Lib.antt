@@ -1,2 +1,3 @@
 pub mod DrawLaws
 pub mod Right
+pub mod Zero

@@ -1,71 +1,152 @@
 -- Demand 3 of `draw_sheet`'s own answer. Where its contract holds and nothing is refused, the answer is what the entries of the
--- translation, sent one at a time, lead to; demand's `whole` says what that is.
+-- translation, sent one at a time, lead to from where the earlier work ended; demand's `picture-is-right` says what that is. Where the
+-- earlier work ends in read mode, the first entry, PITCH, turns it to write mode.
 use mathlib.Core.Path.{_≡_, refl, sym, ap, subst, _∙_}
-use mathlib.Core.Bool.{true}
-use mathlib.Core.List.{List}
-use Prim.Native.Nat.{ℕ, _+_}
+use mathlib.Core.Bool.{Bool, true, false, _&&_}
+use mathlib.Core.List.{List, _∷_}
+use Prim.Native.Nat.{ℕ, _+_, _*_, _≤_}
 use native.Mathlib.Omega.{arith}
-use lib.ListN.{length, getD, take, drop}
-use lib.Seq.{take-at}
-use borrow.Author.Tests.{eq-eqb}
+use lib.ListN.{length, getD, take}
+use borrow.Author.Tests.{eq-eqb, le-ltb}
 use Rattle.dots.specs.Dot.{dot}
+use Rattle.registers.specs.declared.Mode.the-variants.{Read}
 use Rattle.registers.specs.declared.Registers.{Registers}
 use Rattle.registers.specs.Sound.{soundB}
-use Rattle.registers.specs.State.{state}
+use Rattle.registers.specs.State.{State, state}
+use Rattle.registers.specs.Typed.{Words}
 use Rattle.units.specs.Run.{lengthB}
+use Rattle.ports.specs.Port.{turnedBack}
+use Rattle.records.specs.declared.Record.{Record}
 use Rattle.blocks.specs.declared.Answer.{Answer}
-use Rattle.entries.proofs.PutLaws.{placed-is}
-use Rattle.sheets.specs.Slots.{translation}
-use Rattle.sheets.specs.Sheet.{figuresOf, translateDef}
+use Rattle.sheets.specs.Slots.{translated, translation}
+use Rattle.sheets.specs.Sheet.{planeB, figuresOf, translateDef}
 use Rattle.sheets.proofs.SlotLaws.{translation-length}
 use Rattle.sheets.proofs.SheetLaws.{translated-means}
-use Rattle.sending.specs.Send.{Ready, AllAccepted}
-use Rattle.demand.proofs.Whole.{whole}
-use Rattle.sends.specs.Sends.{listSent}
-use Rattle.drawing.specs.Draw.{Outcome, allSent, sheetDrawn}
-use Rattle.drawing.specs.Right.{SheetIsDrawn}
+use Rattle.laws.proofs.KeptLaws.{Lawful, lawful, lawful-typed}
+use Rattle.sending.specs.Send.{Ready, Reply, Accepted, sent, left, sentAll, AllAccepted, unitsOf}
+use Rattle.sending.proofs.WaitLaws.{Waiting, waiting, waiting-ready}
+use Rattle.sending.proofs.ReadLaws.{turned-waits, pitch-turns}
+use Rattle.demand.specs.Shown.{Shown, Bytes}
+use Rattle.demand.proofs.Whole.{taken-out, picture-is-right}
+use Rattle.sends.specs.Sends.{leftAt, unmoved, listSent, finished}
+use Rattle.sends.specs.Sends.{Outcome as Sending}
+use Rattle.sends.proofs.FinishLaws.{finishes, stands, waits-already}
+use Rattle.drawing.specs.declared.Drawn.{Drawn}
+use Rattle.drawing.specs.Draw.{Outcome, outcome, allSent, largerB, sheetDrawn}
+use Rattle.drawing.specs.Right.{Right, SheetIsDrawn, ReadySheetIsDrawn}
 
--- what the definition is where nothing is refused
-module _ (sheet : List ℕ) (p h : ℕ) (glyphs : List ℕ) (r : Registers) (entries mem : List ℕ) where
+-- ---- PITCH from read mode
+module _ (p h : ℕ) (glyphs : List ℕ) (figures : List Record) (r : Registers) (lawful : Lawful r) (read : r .mode ≡ Read)
+    (m l : List ℕ) where
+  same : sent (state r m) 0x147 ≡ sent (state (turnedBack r) m) 0x147
+  same = pitch-turns r lawful read m
+
+  ends : sentAll (state r m) (0x147 ∷ l) ≡ sentAll (state (turnedBack r) m) (0x147 ∷ l)
+  unfolding sentAll
+  ends = ap (λ (q : Reply). sentAll (left q) l) same
+
+  from-read : Shown p h glyphs figures (0x147 ∷ l) (state (turnedBack r) m) → Shown p h glyphs figures (0x147 ∷ l) (state r m)
+  unfolding unitsOf
+  from-read v = record {
+    accepted = subst (λ (q : Reply). Accepted q × AllAccepted (left q) l) (sym same) (v .accepted);
+    idle = subst (λ (s : State). Ready (s .regs)) (sym ends) (v .idle);
+    dots = λ x y i. ap (λ (s : State). dot p x y (s .mem)) ends ∙ v .dots x y i;
+    words = λ j k. ap (λ (s : State). getD (s .mem) j 0) ends ∙ v .words j k;
+    long = ap (λ (s : State). length (s .mem)) ends ∙ v .long;
+    wide = λ k. subst (λ (s : State). Words (s .mem)) (sym ends) (v .wide k);
+    units = ap (λ (q : Reply). q .run .ran .count + unitsOf (left q) l) same ∙ v .units;
+  }
+
+-- ---- what the definition is where nothing is refused
+module _ (sheet : List ℕ) (p h : ℕ) (glyphs : List ℕ) (entries : List ℕ)
+    (accepted : translateDef sheet p h glyphs entries .answer .number ≡ 0)
+    (bytes : Bytes glyphs) where
   abbrev a : Answer
   a = translateDef sheet p h glyphs entries .answer
 
   abbrev out : List ℕ
   out = translateDef sheet p h glyphs entries .out
 
-  abbrev figuresEntries : List ℕ
-  figuresEntries = translation glyphs p (figuresOf sheet p h glyphs)
+  abbrev figures : List Record
+  figures = figuresOf sheet p h glyphs
 
-  granted : soundB r ≡ true → lengthB (length mem) ≡ true → a .number ≡ 0
-      → sheetDrawn sheet p h glyphs r entries mem ≡ allSent a out (listSent (state r mem) (take (a .first) out))
-  unfolding sheetDrawn
-  granted s l z = rw (s, l, eq-eqb (a .number) 0 z)
+  abbrev all : List ℕ
+  all = translation glyphs p figures
 
-  first-written : a .number ≡ 0 → take (a .first) out ≡ figuresEntries
-  first-written z =
-      let k = translated-means sheet p h glyphs entries refl z in
-      let n : length figuresEntries ≡ a .first = translation-length glyphs p (figuresOf sheet p h glyphs) ∙ sym (k .first) in
-      ap (take (a .first)) (k .out ∙ placed-is entries 0 figuresEntries (omega (arith, n, k .fits)))
-      ∙ take-at figuresEntries (drop (0 + length figuresEntries) entries) (a .first) n
+  size : length all ≡ a .first
+  size = translation-length glyphs p figures ∙ sym (translated-means sheet p h glyphs entries refl accepted .first)
 
-pub drawn-right : SheetIsDrawn
-unfolding listSent
-drawn-right sheet p h glyphs r entries mem q out′ drawn e z bytes ready typed lawful room =
+  first-written : take (a .first) out ≡ all
+  first-written =
+      let k = translated-means sheet p h glyphs entries refl accepted in
+      ap (take (a .first)) (k .out) ∙ taken-out entries all (a .first) size (k .fits)
+
+  -- the entries drawn from any set that waits, and from one in read mode
+  from-waiting : (r : Registers) → Waiting r → (m : List ℕ) → lengthB (length m) ≡ true → p * h ≤ length m
+      → Shown p h glyphs figures all (state r m)
+  from-waiting r v m long room =
+      subst (λ (l : List ℕ). Shown p h glyphs figures l (state r m)) first-written
+      (picture-is-right sheet p h glyphs entries out a refl accepted bytes r m (waiting-ready v) (lawful-typed r (v .lawful)) long room)
+
+  from-reading : (r : Registers) → Lawful r → r .mode ≡ Read → (m : List ℕ) → lengthB (length m) ≡ true → p * h ≤ length m
+      → Shown p h glyphs figures all (state r m)
+  unfolding translation
+  from-reading r l read m long room =
+      from-read p h glyphs figures r l read m (p ∷ translated glyphs p figures)
+      (from-waiting (turnedBack r) (turned-waits r l read) m long room)
+
+  module _ (r : Registers) (mem : List ℕ) where
+    fits : p * h ≤ length mem → largerB p h (length mem) ≡ false
+    fits room = rw (le-ltb (length mem) (p * h) room) (and-false (planeB p h))
+      where
+        and-false : (t : Bool) → (t && false) ≡ false
+        and-false true = refl
+        and-false false = refl
+
+    granted : soundB r ≡ true → lengthB (length mem) ≡ true → p * h ≤ length mem
+        → sheetDrawn sheet p h glyphs r entries mem
+        ≡ allSent a out (finished (state r mem)) (listSent (leftAt (finished (state r mem))) (take (a .first) out))
+    unfolding sheetDrawn
+    granted s l room = rw (s, l, fits room, eq-eqb (a .number) 0 accepted)
+
+  -- what the entries draw from w on is what the answer says
+  right : (w : Sending) {q : Drawn} {out′ drawn : List ℕ} → Shown p h glyphs figures all (leftAt w)
+      → outcome q out′ drawn ≡ allSent a out w (listSent (leftAt w) (take (a .first) out))
+      → Right p h glyphs figures (w .sent .regs) (w .mem) q out′ drawn
+  unfolding listSent
+  right w {q} shown e =
+      let sends = e ∙ ap (λ (l : List ℕ). allSent a out w (listSent (leftAt w) l)) first-written in
+      let first : q .first ≡ a .first = ap (λ (x : Outcome). x .drawn .first) e in
+      record {
+        number = ap (λ (x : Outcome). x .drawn .number) e;
+        entries = ap (λ (x : Outcome). take (x .drawn .first) (x .entries)) e ∙ first-written;
+        accepted = shown .accepted;
+        idle = subst Ready (sym (ap (λ (x : Outcome). x .drawn .regs) sends)) (shown .idle);
+        dots = λ x y i. ap (λ (o : Outcome). dot p x y (o .mem)) sends ∙ shown .dots x y i;
+        words = λ j k. ap (λ (o : Outcome). getD (o .mem) j 0) sends ∙ shown .words j k;
+        long = ap (λ (o : Outcome). length (o .mem)) sends ∙ shown .long;
+        wide = λ k. subst Words (sym (ap (λ (o : Outcome). o .mem) sends)) (shown .wide k);
+        units = ap (λ (o : Outcome). o .drawn .units) sends ∙ shown .units ∙ omega (arith, size, first);
+      }
+
+pub sheet-is-drawn : SheetIsDrawn
+sheet-is-drawn sheet p h glyphs r entries mem q out′ drawn e z bytes sound typed words long room =
+    let w = finished (state r mem) in
+    let settled = finishes (length mem) long (state r mem)
+    (record { regs = lawful r sound typed; words = words; long = refl }) in
+    let long′ : lengthB (length (w .mem)) ≡ true = ap lengthB (settled .whole .long) ∙ long in
+    let room′ : p * h ≤ length (w .mem) = rw (settled .whole .long) room in
+    right sheet p h glyphs entries z bytes w
+    (stands (w .sent .regs) (settled .whole .regs)
+    (λ v. from-waiting sheet p h glyphs entries z bytes (w .sent .regs) v (w .mem) long′ room′)
+    (λ k. from-reading sheet p h glyphs entries z bytes (w .sent .regs) (settled .whole .regs) k (w .mem) long′ room′) (settled .still))
+    (e ∙ granted sheet p h glyphs entries z bytes r mem sound long room)
+
+pub ready-sheet-is-drawn : ReadySheetIsDrawn
+ready-sheet-is-drawn sheet p h glyphs r entries mem q out′ drawn e z bytes ready typed long room =
+    let v = waiting r ready typed in
     let t = translateDef sheet p h glyphs entries in
-    let shown = whole sheet p h glyphs entries (t .out) (t .answer) refl z bytes r mem ready typed lawful room in
-    let is = first-written sheet p h glyphs r entries mem z in
-    let all = e ∙ granted sheet p h glyphs r entries mem (ready .sound) lawful z in
-    let first : q .first ≡ t .answer .first = ap (λ (x : Outcome). x .drawn .first) all in
-    let n : length (take (t .answer .first) (t .out)) ≡ t .answer .first =
-    ap length is ∙ translation-length glyphs p (figuresOf sheet p h glyphs)
-    ∙ sym (translated-means sheet p h glyphs entries refl z .first) in
-    record {
-      number = ap (λ (x : Outcome). x .drawn .number) all;
-      entries = ap (λ (x : Outcome). take (x .drawn .first) (x .entries)) all ∙ is;
-      accepted = subst (AllAccepted (state r mem)) is (shown .accepted);
-      idle = subst Ready (sym (ap (λ (x : Outcome). x .drawn .regs) all)) (shown .idle);
-      dots = λ x y i. ap (λ (w : Outcome). dot p x y (w .mem)) all ∙ shown .dots x y i;
-      words = λ j k. ap (λ (w : Outcome). getD (w .mem) j 0) all ∙ shown .words j k;
-      long = ap (λ (w : Outcome). length (w .mem)) all ∙ shown .long;
-      units = ap (λ (w : Outcome). w .drawn .units) all ∙ shown .units ∙ omega (arith, n, first);
-    }
+    right sheet p h glyphs entries z bytes (unmoved (state r mem)) (from-waiting sheet p h glyphs entries z bytes r v mem long room)
+    (e ∙ granted sheet p h glyphs entries z bytes r mem (ready .sound) long room
+    ∙ ap (λ (w : Sending). allSent (t .answer) (t .out) w (listSent (leftAt w) (take (t .answer .first) (t .out))))
+    (waits-already r mem v long))

@@ -1,5 +1,6 @@
--- Demand 3 of the function that draws a sheet: what its own answer says of the picture. `drawn-right` of proofs/Right.antt proves the
--- last definition of this file from the function's contract and from demand's `whole`.
+-- Demand 3 of the function that draws a sheet: what its own answer says of the picture. `sheet-is-drawn` and `ready-sheet-is-drawn` of
+-- proofs/Right.antt, and `zero-is-drawn` of proofs/Zero.antt, prove the last three definitions of this file from the function's contract
+-- and from demand's `picture-is-right`.
 use mathlib.Core.Path.{_≡_}
 use mathlib.Core.Bool.{true}
 use mathlib.Core.List.{List}
@@ -8,7 +9,8 @@ use lib.ListN.{length, getD, take}
 use Rattle.dots.specs.Dot.{dot}
 use Rattle.registers.specs.declared.Registers.{Registers}
 use Rattle.registers.specs.State.{state}
-use Rattle.registers.specs.Typed.{Typed}
+use Rattle.registers.specs.Sound.{soundB}
+use Rattle.registers.specs.Typed.{Typed, Words}
 use Rattle.units.specs.Run.{lengthB}
 use Rattle.records.specs.declared.Record.{Record}
 use Rattle.sheets.specs.Slots.{translation}
@@ -17,6 +19,7 @@ use Rattle.geometry.specs.Plane.{InPlane}
 use Rattle.sending.specs.Send.{Ready, AllAccepted}
 use Rattle.demand.specs.Picture.{figuresMade, figuresDots}
 use Rattle.demand.specs.Shown.{Bytes}
+use Rattle.sends.specs.Sends.{finished}
 use Rattle.drawing.specs.declared.Drawn.{Drawn}
 use Rattle.drawing.specs.Draw.{outcome, sheetDrawn}
 
@@ -36,17 +39,34 @@ pub record Right (p h : ℕ) (glyphs : List ℕ) (figures : List Record) (r : Re
   -- every word past the picture is unaltered, and there are as many words as before
   pub words : (j : ℕ) → p * h ≤ j → getD drawn j 0 ≡ getD mem j 0
   pub long : length drawn ≡ length mem
+  -- words of 16 bits stay words of 16 bits
+  pub wide : Words mem → Words drawn
   -- one unit for each entry and one for each dot
   pub units : q .units ≡ q .first + figuresDots figures
 
 -- Take what `draw_sheet` answers, as its contract says it: for a sheet, P and H, glyph bytes and room for the entries that the translator
--- accepts; a
--- register set that is sound, in write mode, with its buffer empty and nothing being drawn, whatever else it holds (`Typed` is
--- what its types say); and a memory of a lawful length that the picture fits, whatever it holds. Then the picture is drawn.
+-- accepts; any sound register set, whatever waits in it or is in progress (`Typed` and `Words` are what the types say); and a memory of
+-- a lawful length that the picture fits, whatever it holds. Then the picture is drawn over what the earlier work leaves.
 abbrev pub SheetIsDrawn : Type 0
 SheetIsDrawn =
     (sheet : List ℕ) (p h : ℕ) (glyphs : List ℕ) (r : Registers) (entries mem : List ℕ) (q : Drawn) (out drawn : List ℕ)
     → outcome q out drawn ≡ sheetDrawn sheet p h glyphs r entries mem
     → translateDef sheet p h glyphs entries .answer .number ≡ 0 → Bytes glyphs
+    → soundB r ≡ true → Typed r → Words mem → lengthB (length mem) ≡ true → p * h ≤ length mem
+    → Right p h glyphs (figuresOf sheet p h glyphs) (finished (state r mem) .sent .regs) (finished (state r mem) .mem) q out drawn
+
+-- .. and where the set is in write mode, with its buffer empty and nothing being drawn, over the memory as it is lent
+abbrev pub ReadySheetIsDrawn : Type 0
+ReadySheetIsDrawn =
+    (sheet : List ℕ) (p h : ℕ) (glyphs : List ℕ) (r : Registers) (entries mem : List ℕ) (q : Drawn) (out drawn : List ℕ)
+    → outcome q out drawn ≡ sheetDrawn sheet p h glyphs r entries mem
+    → translateDef sheet p h glyphs entries .answer .number ≡ 0 → Bytes glyphs
     → Ready r → Typed r → lengthB (length mem) ≡ true → p * h ≤ length mem
     → Right p h glyphs (figuresOf sheet p h glyphs) r mem q out drawn
+
+-- .. and 0 is answered nowhere else: where it is, no entry was refused, and the picture is drawn
+abbrev pub ZeroIsDrawn : Type 0
+ZeroIsDrawn =
+    (sheet : List ℕ) (p h : ℕ) (glyphs : List ℕ) (r : Registers) (entries mem : List ℕ) (q : Drawn) (out drawn : List ℕ)
+    → outcome q out drawn ≡ sheetDrawn sheet p h glyphs r entries mem → q .number ≡ 0 → Bytes glyphs → Typed r → Words mem
+    → Right p h glyphs (figuresOf sheet p h glyphs) (finished (state r mem) .sent .regs) (finished (state r mem) .mem) q out drawn

@@ -1,14 +1,16 @@
 // A sheet is drawn: it is translated, and its entries are sent to the controller one at a time, with a run after each.
 use registers::Registers;
 ghost use mathlib.Core.Path.{_≡_};
-ghost use Rattle.drawing.specs.Draw.{refusal, outcome, sheetDrawn};
+ghost use Rattle.drawing.specs.Draw.{refusal, outcome, largerB, sheetDrawn};
 
-// What a drawing answers: a number of refusal with its two values, the units done, and the registers.
+// What a drawing answers: a number of refusal with its two values, the units of the sheet and those of what was waiting before it,
+// and the registers.
 pub struct Drawn {
     pub number: u8,
     pub first: u32,
     pub second: u32,
     pub units: u64,
+    pub earlier: u64,
     pub regs: Registers,
 }
 
@@ -21,8 +23,16 @@ fn refuse(number: u8, first: u32, second: u32, r: Registers) -> Drawn
         first: first,
         second: second,
         units: 0,
+        earlier: 0,
         regs: r,
     }
+}
+
+// Whether a picture of P words by H lines, both in range, is larger than a memory of so many words.
+fn larger(p: u32, h: u32, words: usize) -> bool
+    ensures { λ t. ⌜ t ≡ largerB p h words ⌝ }
+{
+    sheets::plane_fits(p, h) & ((words as u64) < p as u64 * h as u64)
 }
 
 // Draws the sheet in a plane of P words by H lines at the memory's start, with the glyph table; entries is room for the translation.
@@ -45,17 +55,22 @@ pub fn draw_sheet(
     if !units::length_right(mem.len()) {
         return refuse(2, 0, 0, r);
     }
+    if larger(p, h, mem.len()) {
+        return refuse(23, 0, 0, r);
+    }
     let a = sheets::translate(sheet, p, h, glyphs, entries);
     if a.number != 0 {
         return refuse(a.number, a.first, a.second, r);
     }
-    let q = sends::send_all(r, entries, a.first, mem);
+    let w = sends::finish(r, mem);
+    let q = sends::send_all(w.regs, entries, a.first, mem);
     let regs = q.regs;
     Drawn {
         number: 0,
         first: a.first,
         second: a.second,
         units: q.units,
+        earlier: w.units,
         regs: regs,
     }
 }

@@ -1,17 +1,17 @@
 -- Entries put one after the other make one run of entries, whatever their number; what stands before and behind them stays; and a record's
 -- entries are as many
 -- as `sizeOf` says. True because `placed` sets one place at a time, and each figure's entries are a list of known length.
-use mathlib.Core.Path.{_≡_, refl}
+use mathlib.Core.Path.{_≡_, refl, ap, _∙_}
 use mathlib.Core.List.{List, [], _∷_, _++_}
 use Prim.Native.Nat.{ℕ, suc, _+_, _<_, _≤_}
 use native.Mathlib.Omega.{arith}
 use native.Mathlib.Numerals.{add-one}
 use lib.ListN.{length, getD, set, take, drop, drop-of-length-le}
 use lib.Seq.{drop-cons, length-sets, sets-eq}
-use Rattle.dots.specs.declared.Operation.{Operation}
 use Rattle.records.specs.declared.Record.{Record}
 use Rattle.records.specs.declared.Figure.{Figure}
 use Rattle.records.specs.declared.Figure.the-variants.{Dot, Line, Rectangle, Glyph}
+use Rattle.dots.specs.Operation.{operationNumber}
 use Rattle.entries.specs.Entries.{placed, plain, figureSize, sizeOf, figureEntries, entriesOf, dotEntries, lineEntries}
 use Rattle.entries.specs.Entries.{rectangleEntries, glyphEntries}
 
@@ -48,23 +48,30 @@ unfolding placed
 placed-is o at e h = sets-eq e o at h
 
 -- ---- a record's entries
-sizes : (t : List ℕ) (p : ℕ) (op : Operation) (f : Figure) → length (figureEntries t p op f) ≡ figureSize f
+sizes : (t : List ℕ) (p : ℕ) (f : Figure) → length (figureEntries t p f) ≡ figureSize f
 unfolding dotEntries lineEntries rectangleEntries glyphEntries
-sizes t p op (Dot a) = refl
-sizes t p op (Line a b) = refl
-sizes t p op (Rectangle a b) = refl
-sizes t p op (Glyph a n g) = refl
+sizes t p (Dot a) = refl
+sizes t p (Line a b) = refl
+sizes t p (Rectangle a b) = refl
+sizes t p (Glyph a n g) = refl
 
 pub entries-size : (t : List ℕ) (p : ℕ) (r : Record) → length (entriesOf t p r) ≡ sizeOf r
 unfolding entriesOf sizeOf
-entries-size t p r = sizes t p (r .op) (plain (r .figure))
+entries-size t p r = ap suc (sizes t p (plain (r .figure)))
 
-pub size-by : (r : Record) {f g : Figure} → g ≡ plain (r .figure) → g ≡ f → figureSize f ≡ sizeOf r
+pub size-by : (r : Record) {f g : Figure} → g ≡ plain (r .figure) → g ≡ f → suc (figureSize f) ≡ sizeOf r
 unfolding sizeOf
 size-by r e q = rw (← e, q)
 
--- what is put for the figure that is sent is the record's
-pub put-by : (at : ℕ) (t : List ℕ) (p : ℕ) (r : Record) {f g : Figure} {e o′ : List ℕ} (o : List ℕ) → g ≡ plain (r .figure) → g ≡ f
-    → e ≡ figureEntries t p (r .op) f → o′ ≡ placed o at e → o′ ≡ placed o at (entriesOf t p r)
-unfolding entriesOf
-put-by at t p r o u v w h = rw (← u, v, ← w) h
+-- one array of entries for each case of a figure
+pub put-by : (at : ℕ) (t : List ℕ) (p : ℕ) {f g : Figure} {e o′ : List ℕ} (o : List ℕ) → g ≡ f → e ≡ figureEntries t p f
+    → o′ ≡ placed o at e → o′ ≡ placed o at (figureEntries t p g)
+put-by at t p o v w h = rw (v, ← w) h
+
+-- WDAT, and the figure behind it, are the record's
+pub record-put : (at : ℕ) (t : List ℕ) (p : ℕ) (r : Record) {n : ℕ} {f : Figure} {o′ o″ : List ℕ} (o : List ℕ)
+    → n ≡ 0x120 + operationNumber (r .op)
+    → f ≡ plain (r .figure) → o′ ≡ set o at n → o″ ≡ placed o′ (at + 1) (figureEntries t p f)
+    → o″ ≡ placed o at (entriesOf t p r)
+unfolding entriesOf placed
+record-put at t p r o u v w h = let e : at + 1 ≡ suc at = omega arith in h ∙ rw (w, u, v, e)

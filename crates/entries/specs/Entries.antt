@@ -1,5 +1,5 @@
 -- 01, Drawing sheets, Translation: the entries for one figure. "16-bit entries, commands are the byte + 256".
-use Prim.Native.Nat.{ℕ, _+_, _-_, _*_, _/_, _%_, min, max}
+use Prim.Native.Nat.{ℕ, suc, _+_, _-_, _*_, _/_, _%_, min, max}
 use mathlib.Core.List.{List, [], _∷_, _++_}
 use mathlib.Core.Bool.{Bool, false, cond, _&&_, _||_}
 use lib.Dec.{eqb, leb}
@@ -23,9 +23,9 @@ eadOf p a = a .y * p + a .x / 16
 abbrev pub cursorEntries : ℕ → ℕ → List ℕ
 cursorEntries e x = 0x149 ∷ (e % 256) ∷ (e / 256 % 256) ∷ (x % 16 * 16 + e / 65536 % 4) ∷ []
 
--- "per figure WDAT word with the operation, then for dots, lines, rectangles CURS (3 bytes), PRAM 8 with FF FF"
-abbrev pub headEntries : Operation → ℕ → Point → List ℕ
-headEntries op p a = (0x120 + operationNumber op) ∷ cursorEntries (eadOf p a) (a .x) ++ 0x178 ∷ 0xFF ∷ 0xFF ∷ []
+-- "for dots, lines, rectangles CURS (3 bytes), PRAM 8 with FF FF"
+abbrev pub headEntries : ℕ → Point → List ℕ
+headEntries p a = cursorEntries (eadOf p a) (a .x) ++ 0x178 ∷ 0xFF ∷ 0xFF ∷ []
 
 -- "both bytes of each number", low byte first
 abbrev pub both : ℕ → List ℕ
@@ -38,8 +38,8 @@ minus14 x n = (x + 16384 - n % 16384) % 16384
 -- ---- dots
 
 -- "FIGS: dot 02", FIGD
-unfoldable pub dotEntries : Operation → ℕ → Point → List ℕ
-dotEntries op p a = headEntries op p a ++ 0x14C ∷ 0x02 ∷ 0x16C ∷ []
+unfoldable pub dotEntries : ℕ → Point → List ℕ
+dotEntries p a = headEntries p a ++ 0x14C ∷ 0x02 ∷ 0x16C ∷ []
 
 -- ---- lines
 
@@ -97,21 +97,21 @@ slopeOf a b =
     }
 
 -- "line L with the smallest fitting DIR, DC N, D 2m - N, D2 2m - 2N, D1 2m", FIGD; "3 L, 2-0 DIR"
-abbrev pub lineBy : Slope → List ℕ
-lineBy s =
+abbrev pub slopeEntries : Slope → List ℕ
+slopeEntries s =
     0x14C ∷ (8 + s .dir)
     ∷ both (s .major) ++ both (minus14 (2 * s .minor) (s .major)) ++ both (minus14 (2 * s .minor) (2 * s .major)) ++ both (2 * s .minor)
     ++ 0x16C ∷ []
 
-unfoldable pub lineEntries : Operation → ℕ → Point → Point → List ℕ
-lineEntries op p a b = headEntries op p a ++ lineBy (slopeOf a b)
+unfoldable pub lineEntries : ℕ → Point → Point → List ℕ
+lineEntries p a b = headEntries p a ++ slopeEntries (slopeOf a b)
 
 -- ---- rectangles
 
 -- "rectangle from its top left, DIR 0, DC 3, D height - 1, D2 width - 1, D1 -1, DM = D", FIGD; "6 R"; -1 is FF 3F in 14 bits; w and h are
 -- the corners' distances
-unfoldable pub rectangleEntries : Operation → ℕ → Point → ℕ → ℕ → List ℕ
-rectangleEntries op p a w h = headEntries op p a ++ 0x14C ∷ 0x40 ∷ both 3 ++ both h ++ both w ++ 0xFF ∷ 0x3F ∷ both h ++ 0x16C ∷ []
+unfoldable pub rectangleEntries : ℕ → Point → ℕ → ℕ → List ℕ
+rectangleEntries p a w h = headEntries p a ++ 0x14C ∷ 0x40 ∷ both 3 ++ both h ++ both w ++ 0xFF ∷ 0x3F ∷ both h ++ 0x16C ∷ []
 
 abbrev pub least : Point → Point → Point
 least a b = record { x = min (a .x) (b .x); y = min (a .y) (b .y) }
@@ -138,37 +138,37 @@ abbrev pub foot : Point → ℕ → Point
 foot a g = record { x = a .x; y = a .y + (8 * g - 1) }
 
 -- "Glyph table: lent bytes, eight per glyph, top row first"
-abbrev pub rowsOf : List ℕ → ℕ → List ℕ
-rowsOf t n =
+abbrev pub glyphRows : List ℕ → ℕ → List ℕ
+glyphRows t n =
     getD t (8 * n) 0 ∷ getD t (8 * n + 1) 0 ∷ getD t (8 * n + 2) 0 ∷ getD t (8 * n + 3) 0
     ∷ getD t (8 * n + 4) 0 ∷ getD t (8 * n + 5) 0 ∷ getD t (8 * n + 6) 0 ∷ getD t (8 * n + 7) 0 ∷ []
 
--- WDAT, then "for glyphs ZOOM g - 1, CURS, PRAM 8 with eight rows, FIGS, GCHRD"; "glyph from its bottom left, DIR 2, DC 7"; "4 GC"
-unfoldable pub glyphEntries : List ℕ → Operation → ℕ → Point → ℕ → ℕ → List ℕ
-glyphEntries t op p a n g =
-    (0x120 + operationNumber op) ∷ 0x146 ∷ (g - 1) ∷ cursorEntries (eadOf p (foot a g)) (a .x)
-    ++ 0x178 ∷ rowsOf t n ++ 0x14C ∷ 0x12 ∷ both 7 ++ 0x168 ∷ []
+-- "for glyphs ZOOM g - 1, CURS, PRAM 8 with eight rows, FIGS, GCHRD"; "glyph from its bottom left, DIR 2, DC 7"; "4 GC"
+unfoldable pub glyphEntries : List ℕ → ℕ → Point → ℕ → ℕ → List ℕ
+glyphEntries t p a n g =
+    0x146 ∷ (g - 1) ∷ cursorEntries (eadOf p (foot a g)) (a .x) ++ 0x178 ∷ glyphRows t n ++ 0x14C ∷ 0x12 ∷ both 7 ++ 0x168 ∷ []
 
 -- ---- a figure, a record
 
-abbrev pub figureEntries : List ℕ → ℕ → Operation → Figure → List ℕ
-figureEntries t p op (Dot a) = dotEntries op p a
-figureEntries t p op (Line a b) = lineEntries op p a b
-figureEntries t p op (Rectangle a b) = rectangleEntries op p a (distance (a .x) (b .x)) (distance (a .y) (b .y))
-figureEntries t p op (Glyph a n g) = glyphEntries t op p a n g
+abbrev pub figureEntries : List ℕ → ℕ → Figure → List ℕ
+figureEntries t p (Dot a) = dotEntries p a
+figureEntries t p (Line a b) = lineEntries p a b
+figureEntries t p (Rectangle a b) = rectangleEntries p a (distance (a .x) (b .x)) (distance (a .y) (b .y))
+figureEntries t p (Glyph a n g) = glyphEntries t p a n g
 
+-- "per figure WDAT word with the operation, then" the figure's own; "WDAT 20 + 8·type + operation"
 unfoldable pub entriesOf : List ℕ → ℕ → Record → List ℕ
-entriesOf t p r = figureEntries t p (r .op) (plain (r .figure))
+entriesOf t p r = (0x120 + operationNumber (r .op)) ∷ figureEntries t p (plain (r .figure))
 
 -- how many they are (`entries-size` of PutLaws)
 abbrev pub figureSize : Figure → ℕ
-figureSize (Dot a) = 11
-figureSize (Line a b) = 19
-figureSize (Rectangle a b) = 21
-figureSize (Glyph a n g) = 21
+figureSize (Dot a) = 10
+figureSize (Line a b) = 18
+figureSize (Rectangle a b) = 20
+figureSize (Glyph a n g) = 20
 
 unfoldable pub sizeOf : Record → ℕ
-sizeOf r = figureSize (plain (r .figure))
+sizeOf r = suc (figureSize (plain (r .figure)))
 
 -- o with the entries e from at on, the rest unaltered (`placed-is` of PutLaws)
 unfoldable pub placed : List ℕ → ℕ → List ℕ → List ℕ

@@ -8,7 +8,7 @@ ghost use Prim.Native.Nat.{_+_, _*_, _/_, _%_, _-_, _<_, min, max};
 ghost use lib.ListN.{getD, set};
 ghost use Rattle.dots.specs.Operation.{operationNumber};
 ghost use Rattle.entries.specs.Entries.{minus14, distance, dirOf, slopeOf, dotEntries, lineEntries, rectangleEntries};
-ghost use Rattle.entries.specs.Entries.{glyphEntries, least, greatest, plain, sizeOf, entriesOf, placed};
+ghost use Rattle.entries.specs.Entries.{glyphEntries, least, greatest, plain, sizeOf, figureEntries, entriesOf, placed};
 
 // A line's direction, its larger distance and its smaller one.
 pub struct Slope {
@@ -112,12 +112,11 @@ fn third(e: u32, x: u16) -> u16
     x % 16 * 16 + (e / 65536 % 4) as u16
 }
 
-fn dot_entries(op: Operation, p: u8, a: Point) -> [u16; 11]
-    ensures { λ r. ⌜ r ≡ dotEntries op p a ⌝ }
+fn dot_entries(p: u8, a: Point) -> [u16; 10]
+    ensures { λ r. ⌜ r ≡ dotEntries p a ⌝ }
 {
     let e = word_of(p, a.x, a.y as u32);
     [
-        wdat(op),
         0x149,
         (e % 256) as u16,
         (e / 256 % 256) as u16,
@@ -131,8 +130,8 @@ fn dot_entries(op: Operation, p: u8, a: Point) -> [u16; 11]
     ]
 }
 
-fn line_entries(op: Operation, p: u8, a: Point, b: Point) -> [u16; 19]
-    ensures { λ r. ⌜ r ≡ lineEntries op p a b ⌝ }
+fn line_entries(p: u8, a: Point, b: Point) -> [u16; 18]
+    ensures { λ r. ⌜ r ≡ lineEntries p a b ⌝ }
 {
     let e = word_of(p, a.x, a.y as u32);
     let s = slope_of(a, b);
@@ -141,7 +140,6 @@ fn line_entries(op: Operation, p: u8, a: Point, b: Point) -> [u16; 19]
     let d = minus(2 * m, n);
     let d2 = minus(2 * m, 2 * n);
     [
-        wdat(op),
         0x149,
         (e % 256) as u16,
         (e / 256 % 256) as u16,
@@ -163,12 +161,11 @@ fn line_entries(op: Operation, p: u8, a: Point, b: Point) -> [u16; 19]
     ]
 }
 
-fn rectangle_entries(op: Operation, p: u8, a: Point, w: u16, h: u16) -> [u16; 21]
-    ensures { λ r. ⌜ r ≡ rectangleEntries op p a w h ⌝ }
+fn rectangle_entries(p: u8, a: Point, w: u16, h: u16) -> [u16; 20]
+    ensures { λ r. ⌜ r ≡ rectangleEntries p a w h ⌝ }
 {
     let e = word_of(p, a.x, a.y as u32);
     [
-        wdat(op),
         0x149,
         (e % 256) as u16,
         (e / 256 % 256) as u16,
@@ -212,13 +209,12 @@ fn less(x: u32) -> u32
     if x == 0 { 0 } else { x - 1 }
 }
 
-fn glyph_entries(t: &[u8], op: Operation, p: u8, a: Point, n: u8, g: u8) -> [u16; 21]
-    ensures { λ r. ⌜ r ≡ glyphEntries (now (t .entry)) op p a n g ⌝ }
+fn glyph_entries(t: &[u8], p: u8, a: Point, n: u8, g: u8) -> [u16; 20]
+    ensures { λ r. ⌜ r ≡ glyphEntries (now (t .entry)) p a n g ⌝ }
 {
     let e = word_of(p, a.x, a.y as u32 + less(8 * g as u32));
     let k = 8 * n as usize;
     [
-        wdat(op),
         0x146,
         less(g as u32) as u16,
         0x149,
@@ -310,34 +306,50 @@ fn store(out: &mut [u16], at: usize, x: u16)
 }
 
 // The entries e go into out from at on, as far as there is room.
-pub fn put(out: &mut [u16], at: u32, e: &[u16])
+fn put_from(out: &mut [u16], at: usize, e: &[u16])
+    requires { ⌜ at < 4294967297 ⌝ }
     ensures { λ _. ⌜ now (out .exit) ≡ placed (now (out .entry)) at (now (e .entry)) ⌝ }
 {
     let mut i: usize = 0;
     while i < e.len() {
-        store(out, at as usize + i, e[i]);
+        store(out, at + i, e[i]);
         i += 1;
     }
 }
 
-// The entries of a record go into out from at on, as far as there is room.
-pub fn put_record(out: &mut [u16], at: u32, t: &[u8], p: u8, r: Record)
-    ensures { λ _. ⌜ now (out .exit) ≡ placed (now (out .entry)) at (entriesOf (now (t .entry)) p r) ⌝ }
+pub fn put(out: &mut [u16], at: u32, e: &[u16])
+    ensures { λ _. ⌜ now (out .exit) ≡ placed (now (out .entry)) at (now (e .entry)) ⌝ }
 {
-    let op = r.op;
-    let figure = r.figure;
-    match plain_of(figure) {
-        Figure::Dot(a) => put(out, at, &dot_entries(op, p, a)),
-        Figure::Line(a, b) => put(out, at, &line_entries(op, p, a, b)),
-        Figure::Rectangle(a, b) => put(
+    put_from(out, at as usize, e);
+}
+
+// The entries of a figure that is plain go into out from at on, as far as there is room.
+fn put_figure(out: &mut [u16], at: usize, t: &[u8], p: u8, f: Figure)
+    requires { ⌜ at < 4294967297 ⌝ }
+    ensures { λ _. ⌜ now (out .exit) ≡ placed (now (out .entry)) at (figureEntries (now (t .entry)) p f) ⌝ }
+{
+    match f {
+        Figure::Dot(a) => put_from(out, at, &dot_entries(p, a)),
+        Figure::Line(a, b) => put_from(out, at, &line_entries(p, a, b)),
+        Figure::Rectangle(a, b) => put_from(
             out,
             at,
-            &rectangle_entries(op, p, a, apart(a.x, b.x), apart(a.y, b.y)),
+            &rectangle_entries(p, a, apart(a.x, b.x), apart(a.y, b.y)),
         ),
         Figure::Glyph {
             at: a,
             number,
             factor,
-        } => put(out, at, &glyph_entries(t, op, p, a, number, factor)),
+        } => put_from(out, at, &glyph_entries(t, p, a, number, factor)),
     }
+}
+
+// The entries of a record go into out from at on, as far as there is room: WDAT, and the figure's.
+pub fn put_record(out: &mut [u16], at: u32, t: &[u8], p: u8, r: Record)
+    ensures { λ _. ⌜ now (out .exit) ≡ placed (now (out .entry)) at (entriesOf (now (t .entry)) p r) ⌝ }
+{
+    let op = r.op;
+    let figure = r.figure;
+    store(out, at as usize, wdat(op));
+    put_figure(out, at as usize + 1, t, p, plain_of(figure));
 }

@@ -157,10 +157,6 @@ fn draw(sheet: &[u8], p: u32, h: u32, glyphs: &[u8], mem: &mut [u16], image: &mu
         sentences::say_refusal(2, d.number, d.first, d.second);
         return;
     }
-    if mem.len() < area_of(p, h) {
-        complain(b"the picture does not fit the memory");
-        return;
-    }
     write_picture(mem, p, h, image);
 }
 

@@ -1,1 +1,3 @@
 pub mod SendLaws
+pub mod EndLaws
+pub mod FinishLaws

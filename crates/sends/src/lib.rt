@@ -7,7 +7,7 @@ ghost use lib.ListN.{take};
 ghost use Rattle.registers.specs.State.{state};
 ghost use Rattle.units.specs.Run.{outcome as ranOutcome};
 ghost use Rattle.sending.specs.Send.{written, sent};
-ghost use Rattle.sends.specs.Sends.{outcome, listSent};
+ghost use Rattle.sends.specs.Sends.{outcome, listSent, finished};
 
 // The registers after entries were sent, and the units that their runs reported.
 pub struct Sent {
@@ -58,6 +58,28 @@ pub fn send_all(r: Registers, entries: &[u16], n: u32, mem: &mut [u16]) -> Sent
         units += q.count as u64;
         s = q.regs;
         k += 1;
+    }
+    Sent {
+        regs: s,
+        units: units,
+    }
+}
+
+// The controller is run until a run does not say that its budget is spent: what was waiting or in progress is finished.
+pub fn finish(r: Registers, mem: &mut [u16]) -> Sent
+    ensures { λ q. ⌜ outcome q (now (mem .exit)) ≡ finished (state r (now (mem .entry))) ⌝ }
+{
+    let mut s = r;
+    let mut units: u64 = 0;
+    let mut left: u32 = 272;
+    while 0 < left {
+        let q = units::run(s, mem, 4294967295);
+        units += q.count as u64;
+        s = q.regs;
+        left -= 1;
+        if q.why != 1 {
+            left = 0;
+        }
     }
     Sent {
         regs: s,

@@ -18,6 +18,7 @@ fn say_meaning(fd: i32, number: u8) -> bool {
         18 => io::write_all(fd, b"a glyph's factor is not 1 to 16"),
         19 => io::write_all(fd, b"a dot lies outside the picture"),
         20 => io::write_all(fd, b"the output is shorter than the translation"),
+        23 => io::write_all(fd, b"the picture does not fit the memory"),
         _ => io::write_all(fd, b"for another reason"),
     }
 }

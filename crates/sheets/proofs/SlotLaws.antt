@@ -57,7 +57,7 @@ pub size-one : {f : List Record} {r : Record} {q : ℕ} → f ≡ r ∷ [] → q
 unfolding sized
 size-one {r = r} e z = rw e (omega (arith, z))
 
-size-small : (f : Figure) → figureSize f ≤ 21
+size-small : (f : Figure) → figureSize f ≤ 20
 size-small (Dot a) = omega arith
 size-small (Line a b) = omega arith
 size-small (Rectangle a b) = omega arith

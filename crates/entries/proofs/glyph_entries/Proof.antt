@@ -22,20 +22,17 @@ word-of-requires c κs = search needs
 mul-k : tie.Need-mul-k
 mul-k c = search needs
 
-wdat-requires : tie.Need-wdat-requires
-wdat-requires c κs = search needs
-
 less-requires-2 : tie.Need-less-requires-2
 less-requires-2 c κs = search needs
 
+cast-t14 : tie.Need-cast-t14
+cast-t14 c = search needs
+
+cast-t15 : tie.Need-cast-t15
+cast-t15 c = search needs
+
 cast-t16 : tie.Need-cast-t16
 cast-t16 c = search needs
-
-cast-t17 : tie.Need-cast-t17
-cast-t17 c = search needs
-
-cast-t18 : tie.Need-cast-t18
-cast-t18 c = search needs
 
 third-requires : tie.Need-third-requires
 third-requires c κs = search needs
@@ -98,9 +95,8 @@ returns c = rw (
   c .before .before .before .before .before .before .before .row .ensures,
   c .before .before .before .before .before .before .before .before .third .ensures,
   c .before .before .before .before .before .before .before .before .before .less2 .ensures,
-  c .before .before .before .before .before .before .before .before .before .before .wdat .ensures,
-  c .before .before .before .before .before .before .before .before .before .before .before .word-of .ensures,
-  c .before .before .before .before .before .before .before .before .before .before .before .before .less .ensures,
+  c .before .before .before .before .before .before .before .before .before .before .word-of .ensures,
+  c .before .before .before .before .before .before .before .before .before .before .before .less .ensures,
 )
 
 pub glyph-entries-spec : {M : Type 1} → statement M
@@ -113,11 +109,10 @@ glyph-entries-spec =
     add-word-of
     word-of-requires
     mul-k
-    wdat-requires
     less-requires-2
+    cast-t14
+    cast-t15
     cast-t16
-    cast-t17
-    cast-t18
     third-requires
     row-requires
     add-row

@@ -34,63 +34,59 @@ mul-minus-3 c = search needs
 minus-requires-2 : tie.Need-minus-requires-2
 minus-requires-2 c κs = search needs
 
-wdat-requires : tie.Need-wdat-requires
-wdat-requires c κs = search needs
+cast-t12 : tie.Need-cast-t12
+cast-t12 c = search needs
 
 cast-t14 : tie.Need-cast-t14
 cast-t14 c = search needs
 
-cast-t16 : tie.Need-cast-t16
-cast-t16 c = search needs
-
 third-requires : tie.Need-third-requires
 third-requires c κs = search needs
 
-cast-t18 : tie.Need-cast-t18
-cast-t18 c = search needs
+cast-t16 : tie.Need-cast-t16
+cast-t16 c = search needs
 
-add-t19 : tie.Need-add-t19
-add-t19 c = search needs
+add-t17 : tie.Need-add-t17
+add-t17 c = search needs
 
-cast-t21 : tie.Need-cast-t21
-cast-t21 c = search needs
+cast-t19 : tie.Need-cast-t19
+cast-t19 c = search needs
+
+cast-t22 : tie.Need-cast-t22
+cast-t22 c = search needs
 
 cast-t24 : tie.Need-cast-t24
 cast-t24 c = search needs
 
-cast-t26 : tie.Need-cast-t26
-cast-t26 c = search needs
+cast-t27 : tie.Need-cast-t27
+cast-t27 c = search needs
 
 cast-t29 : tie.Need-cast-t29
 cast-t29 c = search needs
 
-cast-t31 : tie.Need-cast-t31
-cast-t31 c = search needs
+cast-t32 : tie.Need-cast-t32
+cast-t32 c = search needs
 
-cast-t34 : tie.Need-cast-t34
-cast-t34 c = search needs
+mul-t33 : tie.Need-mul-t33
+mul-t33 c = search needs
 
-mul-t35 : tie.Need-mul-t35
-mul-t35 c = search needs
+cast-t35 : tie.Need-cast-t35
+cast-t35 c = search needs
 
-cast-t37 : tie.Need-cast-t37
-cast-t37 c = search needs
+mul-t36 : tie.Need-mul-t36
+mul-t36 c = search needs
 
-mul-t38 : tie.Need-mul-t38
-mul-t38 c = search needs
-
-cast-t41 : tie.Need-cast-t41
-cast-t41 c = search needs
+cast-t39 : tie.Need-cast-t39
+cast-t39 c = search needs
 
 returns : tie.Need-returns
 unfolding lineEntries
 returns c = rw (
   c .before .third .ensures,
-  c .before .before .wdat .ensures,
-  c .before .before .before .minus2 .ensures,
-  c .before .before .before .before .minus .ensures,
-  c .before .before .before .before .before .before .before .slope-of .ensures,
-  c .before .before .before .before .before .before .before .before .word-of .ensures,
+  c .before .before .minus2 .ensures,
+  c .before .before .before .minus .ensures,
+  c .before .before .before .before .before .before .slope-of .ensures,
+  c .before .before .before .before .before .before .before .word-of .ensures,
 )
 
 pub line-entries-spec : {M : Type 1} → statement M
@@ -107,20 +103,19 @@ line-entries-spec =
     mul-minus-2
     mul-minus-3
     minus-requires-2
-    wdat-requires
+    cast-t12
     cast-t14
-    cast-t16
     third-requires
-    cast-t18
-    add-t19
-    cast-t21
+    cast-t16
+    add-t17
+    cast-t19
+    cast-t22
     cast-t24
-    cast-t26
+    cast-t27
     cast-t29
-    cast-t31
-    cast-t34
-    mul-t35
-    cast-t37
-    mul-t38
-    cast-t41
+    cast-t32
+    mul-t33
+    cast-t35
+    mul-t36
+    cast-t39
     returns)

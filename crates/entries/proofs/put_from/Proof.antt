@@ -1,13 +1,12 @@
--- `put` gives `placed`: what is still to be placed, from where the loop stands, makes the same list at each turn.
+-- `put_from` gives `placed`: what is still to be placed, from where the loop stands, makes the same list at each turn.
 use borrow.Author.Needs.{needs}
--- `put` gives `placed`: what is still to be placed, from where the loop stands, makes the same list at each turn.
 use Prim.Native.Nat.{_+_, _-_, _≤_}
 use mathlib.Core.Path.{_≡_, refl, sym, _∙_}
 use lib.ListN.{length, drop}
 use Rattle.entries.specs.Entries.{placed}
 use Rattle.entries.proofs.PutLaws.{put-starts, put-goes-on, put-ends}
-use Rattle.entries.proofs.put.Statement.{statement}
-use Rattle.entries.proofs.put.Tie as tie
+use Rattle.entries.proofs.put_from.Statement.{statement}
+use Rattle.entries.proofs.put_from.Tie as tie
 
 abbrev Inv-loop : tie.InvT-loop
 Inv-loop out₀ at e i₀ out i = (i ≤ length e) × (length out ≡ length out₀) × (placed out₀ at e ≡ placed out (at + i) (drop i e))
@@ -49,8 +48,8 @@ same-length c = c .before .loop .inv .1
 returns : tie.Need-returns Inv-loop μ-loop
 returns c = put-ends _ _ _ _ (c .loop-test .left) ∙ sym (c .before .loop .inv .2)
 
-pub put-spec : {M : Type 1} → statement M
-put-spec =
+pub put-from-spec : {M : Type 1} → statement M
+put-from-spec =
     tie.close
     (tie.spec
     Inv-loop
