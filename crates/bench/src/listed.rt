@@ -1,19 +1,9 @@
 // The registers as a line.
 use crate::output::fields;
 use crate::output::pairs;
-use dots::Operation;
 use registers::Mode;
 use registers::Registers;
 use registers::Video;
-
-fn operation_number(op: Operation) -> u64 {
-    match op {
-        Operation::Replace => 0,
-        Operation::Complement => 1,
-        Operation::Reset => 2,
-        Operation::Set => 3,
-    }
-}
 
 fn mode_number(m: Mode) -> u64 {
     match m {
@@ -42,7 +32,7 @@ fn first(r: Registers) -> [u64; 12] {
         f.dm as u64,
         8 * f.kind as u64 + f.dir as u64,
         bit(f.gd),
-        operation_number(op),
+        dots::operation_number(op) as u64,
         r.video.zoom as u64,
     ]
 }

@@ -19,7 +19,8 @@ use Rattle.geometry.proofs.CycleLaws.{cycles, Drawn}
 use Rattle.geometry.proofs.FigureLaws.{spread}
 use Rattle.geometry.proofs.GlyphLaws.{spot, glyph-drawn}
 use Rattle.records.specs.declared.Point.{Point}
-use Rattle.entries.specs.Entries.{opNumber, eadOf, cursorEntries, foot, rowsOf, both, glyphEntries}
+use Rattle.dots.specs.Operation.{operationNumber}
+use Rattle.entries.specs.Entries.{eadOf, cursorEntries, foot, rowsOf, both, glyphEntries}
 use Rattle.registers.specs.declared.Command.the-variants.{Figs}
 use Rattle.registers.specs.declared.Drawing.{Drawing}
 use Rattle.registers.specs.declared.Registers.{Registers}
@@ -76,7 +77,8 @@ module _ (p h : ℕ) (sized : Sized p h) (s : State) (held : Held p h s) (op : O
 
   abbrev before : List ℕ
   before =
-      (0x120 + opNumber op) ∷ 0x146 ∷ (g - 1) ∷ cursorEntries (eadOf p (foot a g)) (a .x) ++ 0x178 ∷ rowsOf t n ++ 0x14C ∷ 0x12 ∷ both 7
+      (0x120 + operationNumber op) ∷ 0x146 ∷ (g - 1) ∷ cursorEntries (eadOf p (foot a g))
+      (a .x) ++ 0x178 ∷ rowsOf t n ++ 0x14C ∷ 0x12 ∷ both 7
 
   -- the registers before GCHRD
   abbrev q : Registers

@@ -1,30 +1,30 @@
 -- What every figure's entries begin with: WDAT sets the operation, CURS goes to the figure's first dot, and PRAM sets a pattern of
 -- ones. After them nothing of the controller's earlier mask, address, operation or pattern is left.
-use mathlib.Core.Path.{_≡_, refl, ap}
+use mathlib.Core.Path.{_≡_, ap}
 use mathlib.Core.List.{List, [], _∷_}
-use Prim.Native.Nat.{ℕ, _+_, _*_, _/_, _%_, _^_, _≤_, _<_}
+use Prim.Native.Nat.{ℕ, _+_, _*_, _/_, _%_, _^_, _≤_}
 use native.Mathlib.Nat.{mul-left-comm}
 use native.Mathlib.Omega.{arith}
 use lib.Dec.{eqb, eqb→eq}
 use lib.ListN.{length, set, length-set}
 use lib.Seq.{getD-set-same, getD-set-other}
 use Rattle.dots.specs.declared.Operation.{Operation}
-use Rattle.dots.specs.declared.Operation.the-variants.{Replace, Complement, Reset, Set}
+use Rattle.dots.specs.Operation.{operationNumber}
 use Rattle.dots.specs.declared.Cursor.{Cursor}
 use Rattle.dots.specs.Bit.{bit}
 use Rattle.dots.specs.Dot.{cursorAt}
 use Rattle.dots.proofs.Below.{below}
+use Rattle.dots.proofs.OperationLaws.{operation-below, operation-back}
 use Rattle.dots.proofs.DotLaws.{address}
 use Rattle.geometry.specs.Plane.{InPlane}
 use Rattle.geometry.proofs.WalkLaws.{address-word}
 use Rattle.geometry.proofs.FigureLaws.{spread}
 use Rattle.records.specs.declared.Point.{Point}
-use Rattle.entries.specs.Entries.{opNumber, eadOf, cursorEntries, headEntries}
+use Rattle.entries.specs.Entries.{eadOf, cursorEntries, headEntries}
 use Rattle.registers.specs.declared.Command.the-variants.{Pram, Curs, Wdat}
 use Rattle.registers.specs.declared.Transfer.the-variants.{Word}
 use Rattle.registers.specs.declared.Registers.{Registers}
 use Rattle.registers.specs.Put.{putCursor, putOp, putRam, putProgress}
-use Rattle.processor.specs.Command.{operationOf}
 use Rattle.figures.specs.Figure.{patternOf, patternAt}
 use Rattle.sending.proofs.WaitLaws.{Waiting, drained}
 use Rattle.sending.proofs.SendLaws.{Acts, acts-then}
@@ -32,23 +32,10 @@ use Rattle.sending.proofs.EntryLaws.{progress, wdat-command}
 use Rattle.sending.proofs.GroupLaws.{acts-as, acts-curs, acts-ones}
 
 -- WDAT gets the operation's number, and the controller has the operation from it
-number-lt : (op : Operation) → opNumber op < 4
-number-lt Replace = omega arith
-number-lt Complement = omega arith
-number-lt Reset = omega arith
-number-lt Set = omega arith
-
-operation-back : (op : Operation) → operationOf (opNumber op) ≡ op
-unfolding operationOf
-operation-back Replace = refl
-operation-back Complement = refl
-operation-back Reset = refl
-operation-back Set = refl
-
 pub acts-wdat : {r : Registers} → Waiting r → (op : Operation)
-    → Acts r ((0x120 + opNumber op) ∷ []) (putProgress (putOp (drained r) op) (progress (Wdat Word) 0))
+    → Acts r ((0x120 + operationNumber op) ∷ []) (putProgress (putOp (drained r) op) (progress (Wdat Word) 0))
 acts-wdat {r} v op =
-    acts-as (wdat-command v (opNumber op) (number-lt op))
+    acts-as (wdat-command v (operationNumber op) (operation-below op))
     (ap (λ (o : Operation). putProgress (putOp (drained r) o) (progress (Wdat Word) 0)) (operation-back op))
 
 -- CURS goes to the dot's own cursor

@@ -6,7 +6,7 @@ use lib.Dec.{eqb, leb}
 use lib.ListN.{getD}
 use lib.Seq.{sets}
 use Rattle.dots.specs.declared.Operation.{Operation}
-use Rattle.dots.specs.declared.Operation.the-variants.{Replace, Complement, Reset, Set}
+use Rattle.dots.specs.Operation.{operationNumber}
 use Rattle.records.specs.declared.Point.{Point}
 use Rattle.records.specs.declared.Record.{Record}
 use Rattle.records.specs.declared.Figure.{Figure}
@@ -14,13 +14,6 @@ use Rattle.records.specs.declared.Figure.the-variants.{Dot, Line, Rectangle, Gl
 use Rattle.entries.specs.declared.Slope.{Slope}
 
 -- ---- what every figure starts with
-
--- "0 REPLACE", "1 COMPLEMENT", "2 RESET", "3 SET"
-abbrev pub opNumber : Operation → ℕ
-opNumber Replace = 0
-opNumber Complement = 1
-opNumber Reset = 2
-opNumber Set = 3
 
 -- "dot (x, y) is bit x mod 16 of word y·P + x div 16"
 abbrev pub eadOf : ℕ → Point → ℕ
@@ -32,7 +25,7 @@ cursorEntries e x = 0x149 ∷ (e % 256) ∷ (e / 256 % 256) ∷ (x % 16 * 16 + e
 
 -- "per figure WDAT word with the operation, then for dots, lines, rectangles CURS (3 bytes), PRAM 8 with FF FF"
 abbrev pub headEntries : Operation → ℕ → Point → List ℕ
-headEntries op p a = (0x120 + opNumber op) ∷ cursorEntries (eadOf p a) (a .x) ++ 0x178 ∷ 0xFF ∷ 0xFF ∷ []
+headEntries op p a = (0x120 + operationNumber op) ∷ cursorEntries (eadOf p a) (a .x) ++ 0x178 ∷ 0xFF ∷ 0xFF ∷ []
 
 -- "both bytes of each number", low byte first
 abbrev pub both : ℕ → List ℕ
@@ -153,7 +146,7 @@ rowsOf t n =
 -- WDAT, then "for glyphs ZOOM g - 1, CURS, PRAM 8 with eight rows, FIGS, GCHRD"; "glyph from its bottom left, DIR 2, DC 7"; "4 GC"
 unfoldable pub glyphEntries : List ℕ → Operation → ℕ → Point → ℕ → ℕ → List ℕ
 glyphEntries t op p a n g =
-    (0x120 + opNumber op) ∷ 0x146 ∷ (g - 1) ∷ cursorEntries (eadOf p (foot a g)) (a .x)
+    (0x120 + operationNumber op) ∷ 0x146 ∷ (g - 1) ∷ cursorEntries (eadOf p (foot a g)) (a .x)
     ++ 0x178 ∷ rowsOf t n ++ 0x14C ∷ 0x12 ∷ both 7 ++ 0x168 ∷ []
 
 -- ---- a figure, a record

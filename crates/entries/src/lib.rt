@@ -6,7 +6,8 @@ use records::Record;
 ghost use mathlib.Core.Path.{_≡_};
 ghost use Prim.Native.Nat.{_+_, _*_, _/_, _%_, _-_, _<_, min, max};
 ghost use lib.ListN.{getD, set};
-ghost use Rattle.entries.specs.Entries.{opNumber, minus14, distance, dirOf, slopeOf, dotEntries, lineEntries, rectangleEntries};
+ghost use Rattle.dots.specs.Operation.{operationNumber};
+ghost use Rattle.entries.specs.Entries.{minus14, distance, dirOf, slopeOf, dotEntries, lineEntries, rectangleEntries};
 ghost use Rattle.entries.specs.Entries.{glyphEntries, least, greatest, plain, sizeOf, entriesOf, placed};
 
 // A line's direction, its larger distance and its smaller one.
@@ -16,15 +17,11 @@ pub struct Slope {
     pub minor: u16,
 }
 
-fn op_number(o: Operation) -> u16
-    ensures { λ r. ⌜ (r ≡ opNumber o) × (r < 4) ⌝ }
+// WDAT word with the operation.
+fn wdat(op: Operation) -> u16
+    ensures { λ r. ⌜ r ≡ 0x120 + operationNumber op ⌝ }
 {
-    match o {
-        Operation::Replace => 0,
-        Operation::Complement => 1,
-        Operation::Reset => 2,
-        Operation::Set => 3,
-    }
+    0x120 + dots::operation_number(op) as u16
 }
 
 // The word of the dot (x, y).
@@ -120,7 +117,7 @@ fn dot_entries(op: Operation, p: u8, a: Point) -> [u16; 11]
 {
     let e = word_of(p, a.x, a.y as u32);
     [
-        0x120 + op_number(op),
+        wdat(op),
         0x149,
         (e % 256) as u16,
         (e / 256 % 256) as u16,
@@ -144,7 +141,7 @@ fn line_entries(op: Operation, p: u8, a: Point, b: Point) -> [u16; 19]
     let d = minus(2 * m, n);
     let d2 = minus(2 * m, 2 * n);
     [
-        0x120 + op_number(op),
+        wdat(op),
         0x149,
         (e % 256) as u16,
         (e / 256 % 256) as u16,
@@ -171,7 +168,7 @@ fn rectangle_entries(op: Operation, p: u8, a: Point, w: u16, h: u16) -> [u16; 21
 {
     let e = word_of(p, a.x, a.y as u32);
     [
-        0x120 + op_number(op),
+        wdat(op),
         0x149,
         (e % 256) as u16,
         (e / 256 % 256) as u16,
@@ -221,7 +218,7 @@ fn glyph_entries(t: &[u8], op: Operation, p: u8, a: Point, n: u8, g: u8) -> [u16
     let e = word_of(p, a.x, a.y as u32 + less(8 * g as u32));
     let k = 8 * n as usize;
     [
-        0x120 + op_number(op),
+        wdat(op),
         0x146,
         less(g as u32) as u16,
         0x149,

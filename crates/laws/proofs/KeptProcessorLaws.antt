@@ -10,6 +10,7 @@ use lib.Dec.{eqb, ltb, ltb→lt}
 use lib.ListN.{set, length-set}
 use borrow.Author.Tests.{ltb-true, lt-ltb}
 use Rattle.dots.specs.declared.Cursor.{Cursor}
+use Rattle.dots.specs.Operation.{operationOf}
 use Rattle.dots.specs.Step.{Fits, wordMoveOf}
 use Rattle.dots.proofs.Below.{below}
 use Rattle.registers.specs.declared.Mode.the-variants.{Write, Read}
@@ -29,7 +30,7 @@ use Rattle.registers.specs.Put.{putCursor, putVideo, putMode, putBuffer, putPro
 use Rattle.registers.specs.State.{State, state}
 use Rattle.registers.proofs.BoolLaws.{and-left, and-right}
 use Rattle.commands.specs.Decode.{within, commandOf}
-use Rattle.processor.specs.Command.{begun, resetDone, turned, cursorBytes, penBytes, operationOf, figureBegun, characterBegun, readBegun}
+use Rattle.processor.specs.Command.{begun, resetDone, turned, cursorBytes, penBytes, figureBegun, characterBegun, readBegun}
 use Rattle.processor.specs.Command.{commandBy, commandTaken}
 use Rattle.processor.specs.Parameter.{cursBy, maskBy, figsBy, ramBy, pitchBy, syncBy, ccharBy, zoomBy}
 use Rattle.processor.specs.Wdat.{halfB, wdatPattern, wdatProgress, setDone, wdatTaken}
@@ -135,7 +136,7 @@ module _ (r : Registers) (l : Lawful r) (e : r .work ≡ Idle) where
     command-by Lprd b =
         pen-kept (turned r (penBytes (r .pen))) (turned-kept (penBytes (r .pen)) (pen-bytes (r .pen)))
         (record { address = r .pen .address; set = false }) (l .pen)
-    command-by (Wdat t) b = plain-kept r l (r .pitch) (operationOf b)
+    command-by (Wdat t) b = plain-kept r l (r .pitch) (operationOf (b % 4))
     command-by (Rdat t) b = read-kept t
     command-by Unknown b = l
 

@@ -9,4 +9,3 @@ pub mod KeptPortLaws
 pub mod Kept
 pub mod RunLaws
 pub mod OnlyLaws
-pub mod BenchSheet

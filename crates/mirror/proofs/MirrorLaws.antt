@@ -3,12 +3,15 @@
 use mathlib.Core.Path.{_≡_}
 use mathlib.Core.Bool.{true, _&&_}
 use lib.Dec.{ltb}
+use borrow.Author.Tests.{ltb-true, lt-ltb}
+use Rattle.dots.specs.Operation.{operationNumber}
+use Rattle.dots.proofs.OperationLaws.{operation-below, operation-back, operation-there}
 use Rattle.registers.specs.declared.Registers.{Registers}
 use Rattle.registers.proofs.BoolLaws.{and-left, and-right}
 use Rattle.mirror.specs.declared.PlainRegisters.{PlainRegisters}
 use Rattle.mirror.specs.Form.{commandFormB, workFormB, bitsB, formB}
 use Rattle.mirror.specs.Mirror.{fromPlain, toPlain}
-use Rattle.mirror.proofs.NumberLaws.{bit-fits, operation-back, operation-fits, operation-there, mode-back, mode-fits, mode-there}
+use Rattle.mirror.proofs.NumberLaws.{bit-fits, mode-back, mode-fits, mode-there}
 use Rattle.mirror.proofs.NumberLaws.{command-fits}
 use Rattle.mirror.proofs.PartLaws.{drawing-back, drawing-there, video-back, video-there, pen-back, pen-there, progress-back}
 use Rattle.mirror.proofs.PartLaws.{progress-there, work-back, work-fits, work-there}
@@ -40,7 +43,7 @@ formed-to r =
       bit-fits (r .video .display),
       bit-fits (r .video .vsync),
       bit-fits (r .pen .set),
-      operation-fits (r .op),
+      lt-ltb (operationNumber (r .op)) 4 (operation-below (r .op)),
       mode-fits (r .mode),
       command-fits (r .progress .command),
       work-fits (r .work),
@@ -70,7 +73,7 @@ to-from p s =
       cursor = p .cursor;
       pitch = p .pitch;
       drawing = drawing-there (p .drawing) (and-left gd display t₁) i;
-      op = operation-there (p .op) (and-right a b s₁) i;
+      op = operation-there (p .op) (ltb-true (p .op) 4 (and-right a b s₁)) i;
       ram = p .ram;
       video = video-there (p .video) (and-right gd display t₁) (and-right (gd && display) vsync t₂) i;
       pen = pen-there (p .pen) (and-right (gd && display && vsync) set t₃) i;

@@ -9,8 +9,6 @@ use borrow.Author.Tests.{ltb-true, ltb-false, eqb-true, eqb-false, ne-eqb}
 use lib.Dec.{ltb, eqb}
 use types.Run.{OneOf, miss}
 use denote.Enum.Declared.{tagOf}
-use Rattle.dots.specs.declared.Operation.{Operation}
-use Rattle.dots.specs.declared.Operation.the-variants as operation
 use Rattle.registers.specs.declared.Mode.{Mode}
 use Rattle.registers.specs.declared.Mode.the-variants as mode
 use Rattle.registers.specs.declared.Transfer.{Transfer}
@@ -20,7 +18,7 @@ use Rattle.registers.specs.declared.Command.the-variants.{Nothing, Reset, Vsync
 use Rattle.registers.specs.declared.Command.the-variants.{Gchrd, Curd, Lprd, Wdat, Rdat, Unknown}
 use Rattle.registers.proofs.Command as C
 use Rattle.registers.proofs.BoolLaws.{false-true}
-use Rattle.mirror.specs.Numbers.{bitOf, bitNumber, operationOf, operationNumber, modeOf, modeNumber, transferOf, transferNumber}
+use Rattle.mirror.specs.Numbers.{bitOf, bitNumber, modeOf, modeNumber, transferOf, transferNumber}
 use Rattle.mirror.specs.Numbers.{commandOf, commandNumber, commandTransfer}
 use Rattle.mirror.specs.Form.{commandFormB}
 
@@ -52,12 +50,6 @@ no-transfer Unknown h = refl
 pub bit-back : (t : Bool) → bitOf (bitNumber t) ≡ t
 bit-back true = refl
 bit-back false = refl
-
-pub operation-back : (o : Operation) → operationOf (operationNumber o) ≡ o
-operation-back operation.Replace = refl
-operation-back operation.Complement = refl
-operation-back operation.Reset = refl
-operation-back operation.Set = refl
 
 pub mode-back : (m : Mode) → modeOf (modeNumber m) ≡ m
 mode-back mode.Write = refl
@@ -92,12 +84,6 @@ command-back Unknown = refl
 pub bit-fits : (t : Bool) → ltb (bitNumber t) 2 ≡ true
 bit-fits true = refl
 bit-fits false = refl
-
-pub operation-fits : (o : Operation) → ltb (operationNumber o) 4 ≡ true
-operation-fits operation.Replace = refl
-operation-fits operation.Complement = refl
-operation-fits operation.Reset = refl
-operation-fits operation.Set = refl
 
 pub mode-fits : (m : Mode) → ltb (modeNumber m) 2 ≡ true
 mode-fits mode.Write = refl
@@ -144,10 +130,6 @@ each P (suc n) e k h = each-or-last P n k (λ l. each P n (e .0) k l) (e .1) h (
 -- ---- a number within the range, its case, the number
 pub bit-there : (n : ℕ) → ltb n 2 ≡ true → bitNumber (bitOf n) ≡ n
 bit-there n e = each (λ k. bitNumber (bitOf k) ≡ k) 2 ((tt, refl), refl) n (ltb-true n 2 e)
-
-pub operation-there : (n : ℕ) → ltb n 4 ≡ true → operationNumber (operationOf n) ≡ n
-operation-there n e =
-    each (λ k. operationNumber (operationOf k) ≡ k) 4 ((((tt, refl), refl), refl), refl) n (ltb-true n 4 e)
 
 pub mode-there : (n : ℕ) → ltb n 2 ≡ true → modeNumber (modeOf n) ≡ n
 mode-there n e = each (λ k. modeNumber (modeOf k) ≡ k) 2 ((tt, refl), refl) n (ltb-true n 2 e)

@@ -1,7 +1,8 @@
 -- The register set from plain numbers, and back.
 use Rattle.registers.specs.declared.Registers.{Registers}
 use Rattle.mirror.specs.declared.PlainRegisters.{PlainRegisters}
-use Rattle.mirror.specs.Numbers.{operationOf, operationNumber, modeOf, modeNumber}
+use Rattle.dots.specs.Operation.{operationOf, operationNumber}
+use Rattle.mirror.specs.Numbers.{modeOf, modeNumber}
 use Rattle.mirror.specs.Parts.{cursorOf, cursorPlain, drawingOf, drawingPlain, videoOf, videoPlain, penOf, penPlain, bufferOf}
 use Rattle.mirror.specs.Parts.{bufferPlain, progressOf, progressPlain, workOf, workPlain}
 

@@ -2,8 +2,6 @@
 use Prim.Native.Nat.{ℕ}
 use mathlib.Core.Bool.{Bool, true, false, cond}
 use lib.Dec.{eqb}
-use Rattle.dots.specs.declared.Operation.{Operation}
-use Rattle.dots.specs.declared.Operation.the-variants as operation
 use Rattle.registers.specs.declared.Mode.{Mode}
 use Rattle.registers.specs.declared.Mode.the-variants as mode
 use Rattle.registers.specs.declared.Transfer.{Transfer}
@@ -18,17 +16,6 @@ bitOf n = eqb n 1
 abbrev pub bitNumber : Bool → ℕ
 bitNumber true = 1
 bitNumber false = 0
-
--- "0 REPLACE .., 1 COMPLEMENT .., 2 RESET .., 3 SET"
-abbrev pub operationOf : ℕ → Operation
-operationOf n =
-    cond (eqb n 0) operation.Replace (cond (eqb n 1) operation.Complement (cond (eqb n 2) operation.Reset operation.Set))
-
-abbrev pub operationNumber : Operation → ℕ
-operationNumber operation.Replace = 0
-operationNumber operation.Complement = 1
-operationNumber operation.Reset = 2
-operationNumber operation.Set = 3
 
 abbrev pub modeOf : ℕ → Mode
 modeOf n = cond (eqb n 0) mode.Write mode.Read

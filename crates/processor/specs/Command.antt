@@ -5,8 +5,7 @@ use mathlib.Core.List.{List, [], _∷_, _++_}
 use lib.Dec.{eqb, ltb}
 use lib.ListN.{replicate}
 use Rattle.dots.specs.declared.Cursor.{Cursor}
-use Rattle.dots.specs.declared.Operation.{Operation}
-use Rattle.dots.specs.declared.Operation.the-variants as operation
+use Rattle.dots.specs.Operation.{operationOf}
 use Rattle.registers.specs.declared.Mode.the-variants as mode
 use Rattle.registers.specs.declared.Transfer.{Transfer}
 use Rattle.registers.specs.declared.Command.{Command}
@@ -59,12 +58,6 @@ penBytes p =
 abbrev pub penGiven : Registers → Registers
 penGiven r = turned (putPen r (record { address = r .pen .address; set = false })) (penBytes (r .pen))
 
--- "0 REPLACE .., 1 COMPLEMENT .., 2 RESET .., 3 SET": the two low bits of WDAT's byte
-unfoldable pub operationOf : ℕ → Operation
-operationOf b =
-    cond (eqb (b % 4) 0) operation.Replace
-    (cond (eqb (b % 4) 1) operation.Complement (cond (eqb (b % 4) 2) operation.Reset operation.Set))
-
 -- FIGD: "A figure of no dots .. changes nothing more and ends in the unit that takes its command"; D is copied
 unfoldable pub figureBegun : Registers → Registers
 figureBegun r = cond (ltb 0 (dotsOf (r .drawing))) (putWork r (Figure 0 (r .drawing .d))) r
@@ -98,8 +91,8 @@ commandBy Figd b r = figureBegun r
 commandBy Gchrd b r = characterBegun r
 commandBy Curd b r = turned r (cursorBytes (r .cursor))
 commandBy Lprd b r = penGiven r
--- "WDAT's command byte sets the operation for later figures."
-commandBy (Wdat t) b r = putOp r (operationOf b)
+-- "WDAT's command byte sets the operation for later figures.", "WDAT 20 + 8·type + operation": its two low bits
+commandBy (Wdat t) b r = putOp r (operationOf (b % 4))
 commandBy (Rdat t) b r = readBegun t r
 -- "Any other byte, or an invalid type, ends the previous command and swallows its own parameters."
 commandBy Unknown b r = r

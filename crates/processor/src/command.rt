@@ -23,7 +23,6 @@ ghost use Rattle.processor.specs.Command.{
   cursorBytes,
   penBytes,
   penGiven,
-  operationOf,
   figureBegun,
   characterBegun,
   readBegun,
@@ -159,19 +158,6 @@ fn pen_given(r: Registers) -> Registers
     turn(n, pen_bytes(r.pen))
 }
 
-// The operation that WDAT's byte names.
-pub fn operation_of(byte: u8) -> Operation
-    ensures { λ o. ⌜ o ≡ operationOf byte ⌝ }
-{
-    let n = byte % 4;
-    match n {
-        0 => Operation::Replace,
-        1 => Operation::Complement,
-        2 => Operation::Reset,
-        _ => Operation::Set,
-    }
-}
-
 // WDAT: the operation for its sets and for later figures.
 fn operate(r: Registers, o: Operation) -> Registers
     ensures { λ q. ⌜ q ≡ putOp r o ⌝ }
@@ -280,23 +266,23 @@ pub fn command_taken(r: Registers, byte: u8) -> Registers
     let c = commands::command_of(byte);
     let n = begin(r, c, byte);
     match c {
-        Command::Nothing => n,
         Command::Reset => reset_done(n),
         Command::Vsync => master(n, byte % 2 == 1),
-        Command::Cchar => n,
         Command::Start => start(n),
-        Command::Zoom => n,
-        Command::Curs => n,
-        Command::Pram => n,
-        Command::Pitch => n,
-        Command::Mask => n,
         Command::Figs => refresh(n),
         Command::Figd => begin_figure(n),
         Command::Gchrd => begin_character(n),
         Command::Curd => turn(n, cursor_bytes(n.cursor)),
         Command::Lprd => pen_given(n),
-        Command::Wdat(_) => operate(n, operation_of(byte)),
+        Command::Wdat(_) => operate(n, dots::operation_of(byte % 4)),
         Command::Rdat(t) => begin_read(n, t),
-        Command::Unknown => n,
+        Command::Nothing
+        | Command::Cchar
+        | Command::Zoom
+        | Command::Curs
+        | Command::Pram
+        | Command::Pitch
+        | Command::Mask
+        | Command::Unknown => n,
     }
 }

@@ -258,23 +258,23 @@ pub fn parameter_taken(r: Registers, v: u8, mem: &mut [u16]) -> Registers
     let i = progress.next;
     let n = count(r);
     match c {
-        Command::Nothing => n,
         Command::Reset => put_video(n, sync_byte(n.video, i, v)),
-        Command::Vsync => n,
         Command::Cchar => put_video(n, cchar_byte(n.video, i, v)),
-        Command::Start => n,
         Command::Zoom => put_video(n, zoom_byte(n.video, i, v)),
         Command::Curs => put_cursor(n, curs_byte(n.cursor, i, v)),
         Command::Pram => ram_byte(n, i, v),
         Command::Pitch => pitch_byte(n, i, v),
         Command::Mask => put_cursor(n, mask_byte(n.cursor, i, v)),
         Command::Figs => put_drawing(n, figs_byte(n.drawing, i, v)),
-        Command::Figd => n,
-        Command::Gchrd => n,
-        Command::Curd => n,
-        Command::Lprd => n,
         Command::Wdat(t) => super::wdat::wdat_taken(n, t, i, v, mem),
-        Command::Rdat(_) => n,
-        Command::Unknown => n,
+        Command::Nothing
+        | Command::Vsync
+        | Command::Start
+        | Command::Figd
+        | Command::Gchrd
+        | Command::Curd
+        | Command::Lprd
+        | Command::Rdat(_)
+        | Command::Unknown => n,
     }
 }

@@ -3,8 +3,7 @@ use Prim.Native.Nat.{ℕ, _+_, _*_}
 use mathlib.Core.List.{List}
 use mathlib.Core.Bool.{Bool, cond, not, _&&_, _||_}
 use lib.Dec.{eqb, ltb, leb}
-use Rattle.dots.specs.declared.Operation.{Operation}
-use Rattle.dots.specs.declared.Operation.the-variants.{Replace, Complement, Reset, Set}
+use Rattle.dots.specs.Operation.{operationOf}
 use Rattle.records.specs.declared.Raw.{Raw}
 use Rattle.records.specs.declared.Room.{Room}
 use Rattle.records.specs.declared.Point.{Point}
@@ -14,10 +13,6 @@ use Rattle.records.specs.declared.Refusal.the-variants.{Form, GlyphNumbe
 use Rattle.records.specs.declared.Decoded.{Decoded}
 use Rattle.records.specs.declared.Decoded.the-variants.{Good, Refused}
 use Rattle.records.specs.Raw.{rawAt}
-
--- "0 REPLACE", "1 COMPLEMENT", "2 RESET", "3 SET"
-unfoldable pub operationOf : ℕ → Operation
-operationOf b = cond (eqb b 0) Replace (cond (eqb b 1) Complement (cond (eqb b 2) Reset Set))
 
 abbrev pub point : ℕ → ℕ → Point
 point x y = record { x = x; y = y }

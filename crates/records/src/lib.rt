@@ -3,7 +3,7 @@ use dots::Operation;
 ghost use mathlib.Core.Path.{_≡_};
 ghost use Prim.Native.Nat.{_<_};
 ghost use Rattle.records.specs.Raw.{byteAt, wordAt, recordPlace, rawAt};
-ghost use Rattle.records.specs.Decode.{operationOf, formB, dotOf, lineOf, rectOf, glyphOf, decodedOf, decodedAt};
+ghost use Rattle.records.specs.Decode.{formB, dotOf, lineOf, rectOf, glyphOf, decodedOf, decodedAt};
 ghost use Rattle.records.specs.Refused.{whyNumber, numberOf};
 
 // A dot of the plane.
@@ -96,21 +96,6 @@ fn raw_at(s: &[u8], block: u16, index: u16) -> Raw
     }
 }
 
-fn operation_of(b: u8) -> Operation
-    ensures { λ r. ⌜ r ≡ operationOf b ⌝ }
-{
-    if b == 0 {
-        return Operation::Replace;
-    }
-    if b == 1 {
-        return Operation::Complement;
-    }
-    if b == 2 {
-        return Operation::Reset;
-    }
-    Operation::Set
-}
-
 // A record's form: its kind, its operation, and the bytes that are zero.
 fn formed(r: Raw) -> bool
     ensures { λ q. ⌜ q ≡ formB r ⌝ }
@@ -127,7 +112,7 @@ fn dot(r: Raw, m: Room) -> Decoded
 {
     if (r.x < m.across) & (r.y < m.down) {
         return Decoded::Good(Record {
-            op: operation_of(r.op),
+            op: dots::operation_of(r.op),
             figure: Figure::Dot(Point { x: r.x, y: r.y }),
         });
     }
@@ -139,7 +124,7 @@ fn line(r: Raw, m: Room) -> Decoded
 {
     if (r.x < m.across) & (r.y < m.down) & ((r.x1 < m.across) & (r.y1 < m.down)) {
         return Decoded::Good(Record {
-            op: operation_of(r.op),
+            op: dots::operation_of(r.op),
             figure: Figure::Line(Point { x: r.x, y: r.y }, Point { x: r.x1, y: r.y1 }),
         });
     }
@@ -151,7 +136,7 @@ fn rectangle(r: Raw, m: Room) -> Decoded
 {
     if (r.x < m.across) & (r.y < m.down) & ((r.x1 < m.across) & (r.y1 < m.down)) {
         return Decoded::Good(Record {
-            op: operation_of(r.op),
+            op: dots::operation_of(r.op),
             figure: Figure::Rectangle(Point { x: r.x, y: r.y }, Point { x: r.x1, y: r.y1 }),
         });
     }
@@ -170,7 +155,7 @@ fn glyph(r: Raw, m: Room) -> Decoded
     let size = 8 * r.factor as u32;
     if (r.x as u32 + size <= m.across as u32) & (r.y as u32 + size <= m.down as u32) {
         return Decoded::Good(Record {
-            op: operation_of(r.op),
+            op: dots::operation_of(r.op),
             figure: Figure::Glyph {
                 at: Point { x: r.x, y: r.y },
                 number: r.number,

@@ -16,7 +16,8 @@ use Rattle.registers.specs.Fresh.{freshDrawing}
 use Rattle.registers.specs.Put.{putCursor, putPitch, putDrawing, putOp, putRam, putVideo, putProgress, putZoom}
 use Rattle.registers.specs.State.{state}
 use Rattle.commands.specs.Decode.{commandOf, familyOf}
-use Rattle.processor.specs.Command.{operationOf, commandTaken}
+use Rattle.dots.specs.Operation.{operationOf}
+use Rattle.processor.specs.Command.{commandTaken}
 use Rattle.processor.specs.Parameter.{cursBy, figsBy, zoomBy, ramBy, pitchBy}
 use Rattle.processor.specs.Entry.{nextOf, counted, parameterBy, parameterTaken, entryTaken}
 use Rattle.sending.proofs.WaitLaws.{Waiting, drained, takenBy}

@@ -5,7 +5,8 @@ use Prim.Native.Nat.{ℕ}
 use mathlib.Core.Path.{_≡_, refl}
 use mathlib.Core.List.{List, [], _∷_, _++_}
 use lib.ListN.{replicate}
-use Rattle.records.specs.Decode.{operationOf, dotOf, lineOf, rectOf, glyphOf, decodedOf, decodedAt}
+use Rattle.dots.specs.Operation.{operationOf}
+use Rattle.records.specs.Decode.{dotOf, lineOf, rectOf, glyphOf, decodedOf, decodedAt}
 use Rattle.blocks.specs.Answer.{answer, firstFrom}
 use Rattle.blocks.specs.Block.{sumWords, checkOf, zerosB, headB, blockRefusal, blocksChecked}
 use Rattle.entries.specs.Entries.{dirOf, slopeOf, dotEntries, lineEntries, rectangleEntries, glyphEntries, entriesOf}

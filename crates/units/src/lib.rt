@@ -116,7 +116,7 @@ pub fn length_right(n: usize) -> bool
         | (n == 32768)
         | (n == 65536)
         | (n == 131072)
-        | (n == 262144)
+        | (n == dots::ADDRESSES as usize)
 }
 
 // Units until the budget is spent or there is a reason to stop.

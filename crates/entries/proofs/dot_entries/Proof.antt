@@ -10,24 +10,21 @@ cast-word-of c = search needs
 word-of-requires : tie.Need-word-of-requires
 word-of-requires c κs = search needs
 
-op-number-requires : tie.Need-op-number-requires
-op-number-requires c κs = search needs
+wdat-requires : tie.Need-wdat-requires
+wdat-requires c κs = search needs
 
-add-t7 : tie.Need-add-t7
-add-t7 c = search needs
+cast-t7 : tie.Need-cast-t7
+cast-t7 c = search needs
 
-cast-t8 : tie.Need-cast-t8
-cast-t8 c = search needs
-
-cast-t11 : tie.Need-cast-t11
-cast-t11 c = search needs
+cast-t10 : tie.Need-cast-t10
+cast-t10 c = search needs
 
 third-requires : tie.Need-third-requires
 third-requires c κs = search needs
 
 returns : tie.Need-returns
 unfolding dotEntries
-returns c = rw (c .third .ensures, c .before .op-number .ensures .0, c .before .before .word-of .ensures)
+returns c = rw (c .third .ensures, c .before .wdat .ensures, c .before .before .word-of .ensures)
 
 pub dot-entries-spec : {M : Type 1} → statement M
 dot-entries-spec =
@@ -35,9 +32,8 @@ dot-entries-spec =
     (tie.spec
     cast-word-of
     word-of-requires
-    op-number-requires
-    add-t7
-    cast-t8
-    cast-t11
+    wdat-requires
+    cast-t7
+    cast-t10
     third-requires
     returns)

@@ -22,23 +22,20 @@ word-of-requires c κs = search needs
 mul-k : tie.Need-mul-k
 mul-k c = search needs
 
-op-number-requires : tie.Need-op-number-requires
-op-number-requires c κs = search needs
-
-add-t16 : tie.Need-add-t16
-add-t16 c = search needs
+wdat-requires : tie.Need-wdat-requires
+wdat-requires c κs = search needs
 
 less-requires-2 : tie.Need-less-requires-2
 less-requires-2 c κs = search needs
+
+cast-t16 : tie.Need-cast-t16
+cast-t16 c = search needs
 
 cast-t17 : tie.Need-cast-t17
 cast-t17 c = search needs
 
 cast-t18 : tie.Need-cast-t18
 cast-t18 c = search needs
-
-cast-t19 : tie.Need-cast-t19
-cast-t19 c = search needs
 
 third-requires : tie.Need-third-requires
 third-requires c κs = search needs
@@ -101,7 +98,7 @@ returns c = rw (
   c .before .before .before .before .before .before .before .row .ensures,
   c .before .before .before .before .before .before .before .before .third .ensures,
   c .before .before .before .before .before .before .before .before .before .less2 .ensures,
-  c .before .before .before .before .before .before .before .before .before .before .op-number .ensures .0,
+  c .before .before .before .before .before .before .before .before .before .before .wdat .ensures,
   c .before .before .before .before .before .before .before .before .before .before .before .word-of .ensures,
   c .before .before .before .before .before .before .before .before .before .before .before .before .less .ensures,
 )
@@ -116,12 +113,11 @@ glyph-entries-spec =
     add-word-of
     word-of-requires
     mul-k
-    op-number-requires
-    add-t16
+    wdat-requires
     less-requires-2
+    cast-t16
     cast-t17
     cast-t18
-    cast-t19
     third-requires
     row-requires
     add-row

@@ -34,62 +34,59 @@ mul-minus-3 c = search needs
 minus-requires-2 : tie.Need-minus-requires-2
 minus-requires-2 c κs = search needs
 
-op-number-requires : tie.Need-op-number-requires
-op-number-requires c κs = search needs
+wdat-requires : tie.Need-wdat-requires
+wdat-requires c κs = search needs
 
-add-t14 : tie.Need-add-t14
-add-t14 c = search needs
+cast-t14 : tie.Need-cast-t14
+cast-t14 c = search needs
 
-cast-t15 : tie.Need-cast-t15
-cast-t15 c = search needs
-
-cast-t17 : tie.Need-cast-t17
-cast-t17 c = search needs
+cast-t16 : tie.Need-cast-t16
+cast-t16 c = search needs
 
 third-requires : tie.Need-third-requires
 third-requires c κs = search needs
 
-cast-t19 : tie.Need-cast-t19
-cast-t19 c = search needs
+cast-t18 : tie.Need-cast-t18
+cast-t18 c = search needs
 
-add-t20 : tie.Need-add-t20
-add-t20 c = search needs
+add-t19 : tie.Need-add-t19
+add-t19 c = search needs
 
-cast-t22 : tie.Need-cast-t22
-cast-t22 c = search needs
+cast-t21 : tie.Need-cast-t21
+cast-t21 c = search needs
 
-cast-t25 : tie.Need-cast-t25
-cast-t25 c = search needs
+cast-t24 : tie.Need-cast-t24
+cast-t24 c = search needs
 
-cast-t27 : tie.Need-cast-t27
-cast-t27 c = search needs
+cast-t26 : tie.Need-cast-t26
+cast-t26 c = search needs
 
-cast-t30 : tie.Need-cast-t30
-cast-t30 c = search needs
+cast-t29 : tie.Need-cast-t29
+cast-t29 c = search needs
 
-cast-t32 : tie.Need-cast-t32
-cast-t32 c = search needs
+cast-t31 : tie.Need-cast-t31
+cast-t31 c = search needs
 
-cast-t35 : tie.Need-cast-t35
-cast-t35 c = search needs
+cast-t34 : tie.Need-cast-t34
+cast-t34 c = search needs
 
-mul-t36 : tie.Need-mul-t36
-mul-t36 c = search needs
+mul-t35 : tie.Need-mul-t35
+mul-t35 c = search needs
 
-cast-t38 : tie.Need-cast-t38
-cast-t38 c = search needs
+cast-t37 : tie.Need-cast-t37
+cast-t37 c = search needs
 
-mul-t39 : tie.Need-mul-t39
-mul-t39 c = search needs
+mul-t38 : tie.Need-mul-t38
+mul-t38 c = search needs
 
-cast-t42 : tie.Need-cast-t42
-cast-t42 c = search needs
+cast-t41 : tie.Need-cast-t41
+cast-t41 c = search needs
 
 returns : tie.Need-returns
 unfolding lineEntries
 returns c = rw (
   c .before .third .ensures,
-  c .before .before .op-number .ensures .0,
+  c .before .before .wdat .ensures,
   c .before .before .before .minus2 .ensures,
   c .before .before .before .before .minus .ensures,
   c .before .before .before .before .before .before .before .slope-of .ensures,
@@ -110,21 +107,20 @@ line-entries-spec =
     mul-minus-2
     mul-minus-3
     minus-requires-2
-    op-number-requires
-    add-t14
-    cast-t15
-    cast-t17
+    wdat-requires
+    cast-t14
+    cast-t16
     third-requires
-    cast-t19
-    add-t20
-    cast-t22
-    cast-t25
-    cast-t27
-    cast-t30
-    cast-t32
-    cast-t35
-    mul-t36
-    cast-t38
-    mul-t39
-    cast-t42
+    cast-t18
+    add-t19
+    cast-t21
+    cast-t24
+    cast-t26
+    cast-t29
+    cast-t31
+    cast-t34
+    mul-t35
+    cast-t37
+    mul-t38
+    cast-t41
     returns)

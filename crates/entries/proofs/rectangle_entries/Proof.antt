@@ -10,24 +10,21 @@ cast-word-of c = search needs
 word-of-requires : tie.Need-word-of-requires
 word-of-requires c κs = search needs
 
-op-number-requires : tie.Need-op-number-requires
-op-number-requires c κs = search needs
+wdat-requires : tie.Need-wdat-requires
+wdat-requires c κs = search needs
 
-add-t9 : tie.Need-add-t9
-add-t9 c = search needs
+cast-t9 : tie.Need-cast-t9
+cast-t9 c = search needs
 
-cast-t10 : tie.Need-cast-t10
-cast-t10 c = search needs
-
-cast-t13 : tie.Need-cast-t13
-cast-t13 c = search needs
+cast-t12 : tie.Need-cast-t12
+cast-t12 c = search needs
 
 third-requires : tie.Need-third-requires
 third-requires c κs = search needs
 
 returns : tie.Need-returns
 unfolding rectangleEntries
-returns c = rw (c .third .ensures, c .before .op-number .ensures .0, c .before .before .word-of .ensures)
+returns c = rw (c .third .ensures, c .before .wdat .ensures, c .before .before .word-of .ensures)
 
 pub rectangle-entries-spec : {M : Type 1} → statement M
 rectangle-entries-spec =
@@ -35,9 +32,8 @@ rectangle-entries-spec =
     (tie.spec
     cast-word-of
     word-of-requires
-    op-number-requires
-    add-t9
-    cast-t10
-    cast-t13
+    wdat-requires
+    cast-t9
+    cast-t12
     third-requires
     returns)

@@ -1,8 +1,8 @@
--- `command_taken` decodes the byte, notes the command and goes by cases (`taken-by`).
-use Rattle.processor.proofs.CommandLaws.{taken-by}
+-- `command_taken` decodes the byte, notes the command and goes by cases (`taken-by`); those that do nothing more share one (`quiet-by`).
+use Rattle.processor.proofs.CommandLaws.{taken-by, quiet-by}
 use Rattle.processor.specs.Command.{turned}
 use Rattle.registers.specs.Put.{putOp}
-use mathlib.Core.Path.{refl, _∙_, ap}
+use mathlib.Core.Path.{_∙_, ap}
 use borrow.Author.Needs.{needs}
 use Rattle.processor.proofs.command.command_taken.Statement.{statement}
 use Rattle.processor.proofs.command.command_taken.Tie as tie
@@ -16,62 +16,41 @@ begin-requires c κs = search needs
 enum-told : tie.Need-enum-told
 enum-told c = search needs
 
-enum-told-2 : tie.Need-enum-told-2
-enum-told-2 c = search needs
-
 reset-done-requires : tie.Need-reset-done-requires
 reset-done-requires c κs = search needs
 
-enum-told-3 : tie.Need-enum-told-3
-enum-told-3 c = search needs
+enum-told-2 : tie.Need-enum-told-2
+enum-told-2 c = search needs
 
 master-requires : tie.Need-master-requires
 master-requires c κs = search needs
 
-enum-told-4 : tie.Need-enum-told-4
-enum-told-4 c = search needs
-
-enum-told-5 : tie.Need-enum-told-5
-enum-told-5 c = search needs
+enum-told-3 : tie.Need-enum-told-3
+enum-told-3 c = search needs
 
 start-requires : tie.Need-start-requires
 start-requires c κs = search needs
 
-enum-told-6 : tie.Need-enum-told-6
-enum-told-6 c = search needs
-
-enum-told-7 : tie.Need-enum-told-7
-enum-told-7 c = search needs
-
-enum-told-8 : tie.Need-enum-told-8
-enum-told-8 c = search needs
-
-enum-told-9 : tie.Need-enum-told-9
-enum-told-9 c = search needs
-
-enum-told-10 : tie.Need-enum-told-10
-enum-told-10 c = search needs
-
-enum-told-11 : tie.Need-enum-told-11
-enum-told-11 c = search needs
+enum-told-4 : tie.Need-enum-told-4
+enum-told-4 c = search needs
 
 refresh-requires : tie.Need-refresh-requires
 refresh-requires c κs = search needs
 
-enum-told-12 : tie.Need-enum-told-12
-enum-told-12 c = search needs
+enum-told-5 : tie.Need-enum-told-5
+enum-told-5 c = search needs
 
 begin-figure-requires : tie.Need-begin-figure-requires
 begin-figure-requires c κs = search needs
 
-enum-told-13 : tie.Need-enum-told-13
-enum-told-13 c = search needs
+enum-told-6 : tie.Need-enum-told-6
+enum-told-6 c = search needs
 
 begin-character-requires : tie.Need-begin-character-requires
 begin-character-requires c κs = search needs
 
-enum-told-14 : tie.Need-enum-told-14
-enum-told-14 c = search needs
+enum-told-7 : tie.Need-enum-told-7
+enum-told-7 c = search needs
 
 cursor-bytes-requires : tie.Need-cursor-bytes-requires
 cursor-bytes-requires c κs = search needs
@@ -79,14 +58,14 @@ cursor-bytes-requires c κs = search needs
 turn-requires : tie.Need-turn-requires
 turn-requires c κs = search needs
 
-enum-told-15 : tie.Need-enum-told-15
-enum-told-15 c = search needs
+enum-told-8 : tie.Need-enum-told-8
+enum-told-8 c = search needs
 
 pen-given-requires : tie.Need-pen-given-requires
 pen-given-requires c κs = search needs
 
-enum-told-16 : tie.Need-enum-told-16
-enum-told-16 c = search needs
+enum-told-9 : tie.Need-enum-told-9
+enum-told-9 c = search needs
 
 operation-of-requires : tie.Need-operation-of-requires
 operation-of-requires c κs = search needs
@@ -100,91 +79,60 @@ enum-known-c c = search needs
 begin-read-requires : tie.Need-begin-read-requires
 begin-read-requires c κs = search needs
 
-enum-told-17 : tie.Need-enum-told-17
-enum-told-17 c = search needs
-
 returns : tie.Need-returns
-returns c = taken-by _ _ (c .before .before .before .command-of .ensures) (c .before .before .begin .ensures) (c .enum-told .given .1) refl
+returns c =
+    taken-by _ _ (c .before .before .before .before .command-of .ensures) (c .before .before .before .begin .ensures)
+    (c .before .enum-told .given .1) (c .reset-done .ensures)
 
 returns-2 : tie.Need-returns-2
 returns-2 c =
     taken-by _ _ (c .before .before .before .before .command-of .ensures) (c .before .before .before .begin .ensures)
-    (c .before .enum-told2 .given .1) (c .reset-done .ensures)
+    (c .before .enum-told2 .given .1) (c .master .ensures)
 
 returns-3 : tie.Need-returns-3
 returns-3 c =
     taken-by _ _ (c .before .before .before .before .command-of .ensures) (c .before .before .before .begin .ensures)
-    (c .before .enum-told3 .given .1) (c .master .ensures)
+    (c .before .enum-told3 .given .1) (c .start .ensures)
 
 returns-4 : tie.Need-returns-4
 returns-4 c =
-    taken-by _ _ (c .before .before .before .command-of .ensures) (c .before .before .begin .ensures) (c .enum-told4 .given .1) refl
+    taken-by _ _ (c .before .before .before .before .command-of .ensures) (c .before .before .before .begin .ensures)
+    (c .before .enum-told4 .given .1) (c .refresh .ensures)
 
 returns-5 : tie.Need-returns-5
 returns-5 c =
     taken-by _ _ (c .before .before .before .before .command-of .ensures) (c .before .before .before .begin .ensures)
-    (c .before .enum-told5 .given .1) (c .start .ensures)
+    (c .before .enum-told5 .given .1) (c .begin-figure .ensures)
 
 returns-6 : tie.Need-returns-6
 returns-6 c =
-    taken-by _ _ (c .before .before .before .command-of .ensures) (c .before .before .begin .ensures) (c .enum-told6 .given .1) refl
+    taken-by _ _ (c .before .before .before .before .command-of .ensures) (c .before .before .before .begin .ensures)
+    (c .before .enum-told6 .given .1) (c .begin-character .ensures)
 
 returns-7 : tie.Need-returns-7
 returns-7 c =
-    taken-by _ _ (c .before .before .before .command-of .ensures) (c .before .before .begin .ensures) (c .enum-told7 .given .1) refl
+    taken-by _ _ (c .before .before .before .before .before .command-of .ensures) (c .before .before .before .before .begin .ensures)
+    (c .before .before .enum-told7 .given .1)
+    (c .turn .ensures ∙ ap (turned (c .before .before .before .before .begin .result)) (c .before .cursor-bytes .ensures))
 
 returns-8 : tie.Need-returns-8
 returns-8 c =
-    taken-by _ _ (c .before .before .before .command-of .ensures) (c .before .before .begin .ensures) (c .enum-told8 .given .1) refl
+    taken-by _ _ (c .before .before .before .before .command-of .ensures) (c .before .before .before .begin .ensures)
+    (c .before .enum-told8 .given .1) (c .pen-given .ensures)
 
 returns-9 : tie.Need-returns-9
 returns-9 c =
-    taken-by _ _ (c .before .before .before .command-of .ensures) (c .before .before .begin .ensures) (c .enum-told9 .given .1) refl
+    taken-by _ _ (c .before .before .before .before .before .command-of .ensures) (c .before .before .before .before .begin .ensures)
+    (c .before .before .enum-told9 .given .1)
+    (c .operate .ensures ∙ ap (putOp (c .before .before .before .before .begin .result)) (c .before .operation-of .ensures))
 
 returns-10 : tie.Need-returns-10
 returns-10 c =
-    taken-by _ _ (c .before .before .before .command-of .ensures) (c .before .before .begin .ensures) (c .enum-told10 .given .1) refl
-
-returns-11 : tie.Need-returns-11
-returns-11 c =
-    taken-by _ _ (c .before .before .before .before .command-of .ensures) (c .before .before .before .begin .ensures)
-    (c .before .enum-told11 .given .1) (c .refresh .ensures)
-
-returns-12 : tie.Need-returns-12
-returns-12 c =
-    taken-by _ _ (c .before .before .before .before .command-of .ensures) (c .before .before .before .begin .ensures)
-    (c .before .enum-told12 .given .1) (c .begin-figure .ensures)
-
-returns-13 : tie.Need-returns-13
-returns-13 c =
-    taken-by _ _ (c .before .before .before .before .command-of .ensures) (c .before .before .before .begin .ensures)
-    (c .before .enum-told13 .given .1) (c .begin-character .ensures)
-
-returns-14 : tie.Need-returns-14
-returns-14 c =
-    taken-by _ _ (c .before .before .before .before .before .command-of .ensures) (c .before .before .before .before .begin .ensures)
-    (c .before .before .enum-told14 .given .1)
-    (c .turn .ensures ∙ ap (turned (c .before .before .before .before .begin .result)) (c .before .cursor-bytes .ensures))
-
-returns-15 : tie.Need-returns-15
-returns-15 c =
-    taken-by _ _ (c .before .before .before .before .command-of .ensures) (c .before .before .before .begin .ensures)
-    (c .before .enum-told15 .given .1) (c .pen-given .ensures)
-
-returns-16 : tie.Need-returns-16
-returns-16 c =
-    taken-by _ _ (c .before .before .before .before .before .command-of .ensures) (c .before .before .before .before .begin .ensures)
-    (c .before .before .enum-told16 .given .1)
-    (c .operate .ensures ∙ ap (putOp (c .before .before .before .before .begin .result)) (c .before .operation-of .ensures))
-
-returns-17 : tie.Need-returns-17
-returns-17 c =
     taken-by _ _ (c .before .before .before .before .before .command-of .ensures) (c .before .before .before .before .begin .ensures)
     (c .before .before .c .given .1) (c .begin-read .ensures)
 
-returns-18 : tie.Need-returns-18
-returns-18 c =
-    taken-by _ _ (c .before .before .before .command-of .ensures) (c .before .before .begin .ensures) (c .enum-told17 .given .1) refl
+returns-11 : tie.Need-returns-11
+returns-11 c = quiet-by _ _ (c .before .before .command-of .ensures) (c .before .begin .ensures) (c .match .keys11)
 
 pub command-taken-spec : {M : Type 1} → statement M
 command-taken-spec =
@@ -193,35 +141,27 @@ command-taken-spec =
     command-of-requires
     begin-requires
     enum-told
-    enum-told-2
     reset-done-requires
-    enum-told-3
+    enum-told-2
     master-requires
-    enum-told-4
-    enum-told-5
+    enum-told-3
     start-requires
-    enum-told-6
-    enum-told-7
-    enum-told-8
-    enum-told-9
-    enum-told-10
-    enum-told-11
+    enum-told-4
     refresh-requires
-    enum-told-12
+    enum-told-5
     begin-figure-requires
-    enum-told-13
+    enum-told-6
     begin-character-requires
-    enum-told-14
+    enum-told-7
     cursor-bytes-requires
     turn-requires
-    enum-told-15
+    enum-told-8
     pen-given-requires
-    enum-told-16
+    enum-told-9
     operation-of-requires
     operate-requires
     enum-known-c
     begin-read-requires
-    enum-told-17
     returns
     returns-2
     returns-3
@@ -232,11 +172,4 @@ command-taken-spec =
     returns-8
     returns-9
     returns-10
-    returns-11
-    returns-12
-    returns-13
-    returns-14
-    returns-15
-    returns-16
-    returns-17
-    returns-18)
+    returns-11)

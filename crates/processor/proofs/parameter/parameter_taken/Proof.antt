@@ -1,7 +1,8 @@
--- `parameter_taken` counts the parameter and goes by the command in progress (`parameter-by`).
-use Rattle.processor.proofs.EntryLaws.{parameter-by, still}
+-- `parameter_taken` counts the parameter and goes by the command in progress (`parameter-by`); commands without one share a case
+-- (`ignored-by`).
+use Rattle.processor.proofs.EntryLaws.{parameter-by, ignored-by, still}
 use Rattle.registers.specs.Put.{putCursor, putDrawing, putVideo}
-use mathlib.Core.Path.{refl, _∙_, ap}
+use mathlib.Core.Path.{_∙_, ap}
 use borrow.Author.Needs.{needs}
 use Rattle.processor.proofs.parameter.parameter_taken.Statement.{statement}
 use Rattle.processor.proofs.parameter.parameter_taken.Tie as tie
@@ -12,20 +13,14 @@ count-requires c κs = search needs
 enum-told : tie.Need-enum-told
 enum-told c = search needs
 
-enum-told-2 : tie.Need-enum-told-2
-enum-told-2 c = search needs
-
 sync-byte-requires : tie.Need-sync-byte-requires
 sync-byte-requires c κs = search needs
 
 put-video-requires : tie.Need-put-video-requires
 put-video-requires c κs = search needs
 
-enum-told-3 : tie.Need-enum-told-3
-enum-told-3 c = search needs
-
-enum-told-4 : tie.Need-enum-told-4
-enum-told-4 c = search needs
+enum-told-2 : tie.Need-enum-told-2
+enum-told-2 c = search needs
 
 cchar-byte-requires : tie.Need-cchar-byte-requires
 cchar-byte-requires c κs = search needs
@@ -33,11 +28,8 @@ cchar-byte-requires c κs = search needs
 put-video-requires-2 : tie.Need-put-video-requires-2
 put-video-requires-2 c κs = search needs
 
-enum-told-5 : tie.Need-enum-told-5
-enum-told-5 c = search needs
-
-enum-told-6 : tie.Need-enum-told-6
-enum-told-6 c = search needs
+enum-told-3 : tie.Need-enum-told-3
+enum-told-3 c = search needs
 
 zoom-byte-requires : tie.Need-zoom-byte-requires
 zoom-byte-requires c κs = search needs
@@ -45,8 +37,8 @@ zoom-byte-requires c κs = search needs
 put-video-requires-3 : tie.Need-put-video-requires-3
 put-video-requires-3 c κs = search needs
 
-enum-told-7 : tie.Need-enum-told-7
-enum-told-7 c = search needs
+enum-told-4 : tie.Need-enum-told-4
+enum-told-4 c = search needs
 
 curs-byte-requires : tie.Need-curs-byte-requires
 curs-byte-requires c κs = search needs
@@ -54,20 +46,20 @@ curs-byte-requires c κs = search needs
 put-cursor-requires : tie.Need-put-cursor-requires
 put-cursor-requires c κs = search needs
 
-enum-told-8 : tie.Need-enum-told-8
-enum-told-8 c = search needs
+enum-told-5 : tie.Need-enum-told-5
+enum-told-5 c = search needs
 
 ram-byte-requires : tie.Need-ram-byte-requires
 ram-byte-requires c κs = search needs
 
-enum-told-9 : tie.Need-enum-told-9
-enum-told-9 c = search needs
+enum-told-6 : tie.Need-enum-told-6
+enum-told-6 c = search needs
 
 pitch-byte-requires : tie.Need-pitch-byte-requires
 pitch-byte-requires c κs = search needs
 
-enum-told-10 : tie.Need-enum-told-10
-enum-told-10 c = search needs
+enum-told-7 : tie.Need-enum-told-7
+enum-told-7 c = search needs
 
 mask-byte-requires : tie.Need-mask-byte-requires
 mask-byte-requires c κs = search needs
@@ -75,8 +67,8 @@ mask-byte-requires c κs = search needs
 put-cursor-requires-2 : tie.Need-put-cursor-requires-2
 put-cursor-requires-2 c κs = search needs
 
-enum-told-11 : tie.Need-enum-told-11
-enum-told-11 c = search needs
+enum-told-8 : tie.Need-enum-told-8
+enum-told-8 c = search needs
 
 figs-byte-requires : tie.Need-figs-byte-requires
 figs-byte-requires c κs = search needs
@@ -84,107 +76,60 @@ figs-byte-requires c κs = search needs
 put-drawing-requires : tie.Need-put-drawing-requires
 put-drawing-requires c κs = search needs
 
-enum-told-12 : tie.Need-enum-told-12
-enum-told-12 c = search needs
-
-enum-told-13 : tie.Need-enum-told-13
-enum-told-13 c = search needs
-
-enum-told-14 : tie.Need-enum-told-14
-enum-told-14 c = search needs
-
-enum-told-15 : tie.Need-enum-told-15
-enum-told-15 c = search needs
-
 enum-known-c : tie.Need-enum-known-c
 enum-known-c c = search needs
 
 wdat-taken-requires : tie.Need-wdat-taken-requires
 wdat-taken-requires c κs = search needs
 
-enum-told-16 : tie.Need-enum-told-16
-enum-told-16 c = search needs
-
-enum-told-17 : tie.Need-enum-told-17
-enum-told-17 c = search needs
-
 returns : tie.Need-returns
-returns c = parameter-by _ _ _ (c .before .before .count .ensures) (c .enum-told .given .1) refl
+returns c =
+    parameter-by _ _ _ (c .before .before .before .before .count .ensures) (c .before .before .enum-told .given .1)
+    (still _ (c .put-video .ensures ∙ ap (putVideo (c .before .before .before .before .count .result)) (c .before .sync-byte .ensures)))
 
 returns-2 : tie.Need-returns-2
 returns-2 c =
     parameter-by _ _ _ (c .before .before .before .before .count .ensures) (c .before .before .enum-told2 .given .1)
-    (still _ (c .put-video .ensures ∙ ap (putVideo (c .before .before .before .before .count .result)) (c .before .sync-byte .ensures)))
+    (still _ (c .put-video2 .ensures ∙ ap (putVideo (c .before .before .before .before .count .result)) (c .before .cchar-byte .ensures)))
 
 returns-3 : tie.Need-returns-3
-returns-3 c = parameter-by _ _ _ (c .before .before .count .ensures) (c .enum-told3 .given .1) refl
+returns-3 c =
+    parameter-by _ _ _ (c .before .before .before .before .count .ensures) (c .before .before .enum-told3 .given .1)
+    (still _ (c .put-video3 .ensures ∙ ap (putVideo (c .before .before .before .before .count .result)) (c .before .zoom-byte .ensures)))
 
 returns-4 : tie.Need-returns-4
 returns-4 c =
     parameter-by _ _ _ (c .before .before .before .before .count .ensures) (c .before .before .enum-told4 .given .1)
-    (still _ (c .put-video2 .ensures ∙ ap (putVideo (c .before .before .before .before .count .result))
-    (c .before .cchar-byte .ensures)))
+    (still _ (c .put-cursor .ensures ∙ ap (putCursor (c .before .before .before .before .count .result)) (c .before .curs-byte .ensures)))
 
 returns-5 : tie.Need-returns-5
-returns-5 c = parameter-by _ _ _ (c .before .before .count .ensures) (c .enum-told5 .given .1) refl
+returns-5 c =
+    parameter-by _ _ _ (c .before .before .before .count .ensures) (c .before .enum-told5 .given .1) (still _ (c .ram-byte .ensures))
 
 returns-6 : tie.Need-returns-6
 returns-6 c =
-    parameter-by _ _ _ (c .before .before .before .before .count .ensures) (c .before .before .enum-told6 .given .1)
-    (still _ (c .put-video3 .ensures ∙ ap (putVideo (c .before .before .before .before .count .result))
-    (c .before .zoom-byte .ensures)))
+    parameter-by _ _ _ (c .before .before .before .count .ensures) (c .before .enum-told6 .given .1) (still _ (c .pitch-byte .ensures))
 
 returns-7 : tie.Need-returns-7
 returns-7 c =
     parameter-by _ _ _ (c .before .before .before .before .count .ensures) (c .before .before .enum-told7 .given .1)
-    (still _ (c .put-cursor .ensures ∙ ap (putCursor (c .before .before .before .before .count .result))
-    (c .before .curs-byte .ensures)))
+    (still _ (c .put-cursor2 .ensures ∙ ap (putCursor (c .before .before .before .before .count .result)) (c .before .mask-byte .ensures)))
 
 returns-8 : tie.Need-returns-8
 returns-8 c =
-    parameter-by _ _ _ (c .before .before .before .count .ensures) (c .before .enum-told8 .given .1) (still _ (c .ram-byte .ensures))
-
-returns-9 : tie.Need-returns-9
-returns-9 c =
-    parameter-by _ _ _ (c .before .before .before .count .ensures) (c .before .enum-told9 .given .1) (still _ (c .pitch-byte .ensures))
-
-returns-10 : tie.Need-returns-10
-returns-10 c =
-    parameter-by _ _ _ (c .before .before .before .before .count .ensures) (c .before .before .enum-told10 .given .1)
-    (still _ (c .put-cursor2 .ensures ∙ ap (putCursor (c .before .before .before .before .count .result))
-    (c .before .mask-byte .ensures)))
-
-returns-11 : tie.Need-returns-11
-returns-11 c =
-    parameter-by _ _ _ (c .before .before .before .before .count .ensures) (c .before .before .enum-told11 .given .1)
-    (still _ (c .put-drawing .ensures ∙ ap (putDrawing (c .before .before .before .before .count .result))
-    (c .before .figs-byte .ensures)))
-
-returns-12 : tie.Need-returns-12
-returns-12 c = parameter-by _ _ _ (c .before .before .count .ensures) (c .enum-told12 .given .1) refl
-
-returns-13 : tie.Need-returns-13
-returns-13 c = parameter-by _ _ _ (c .before .before .count .ensures) (c .enum-told13 .given .1) refl
-
-returns-14 : tie.Need-returns-14
-returns-14 c = parameter-by _ _ _ (c .before .before .count .ensures) (c .enum-told14 .given .1) refl
-
-returns-15 : tie.Need-returns-15
-returns-15 c = parameter-by _ _ _ (c .before .before .count .ensures) (c .enum-told15 .given .1) refl
+    parameter-by _ _ _ (c .before .before .before .before .count .ensures) (c .before .before .enum-told8 .given .1)
+    (still _ (c .put-drawing .ensures ∙ ap (putDrawing (c .before .before .before .before .count .result)) (c .before .figs-byte .ensures)))
 
 same-length : tie.Need-same-length
 same-length c = search needs
 
-returns-16 : tie.Need-returns-16
-returns-16 c =
+returns-9 : tie.Need-returns-9
+returns-9 c =
     parameter-by _ _ _ (c .before .before .before .before .before .before .before .count .ensures)
     (c .before .before .before .before .before .c .given .1) (c .before .before .wdat-taken .ensures)
 
-returns-17 : tie.Need-returns-17
-returns-17 c = parameter-by _ _ _ (c .before .before .count .ensures) (c .enum-told16 .given .1) refl
-
-returns-18 : tie.Need-returns-18
-returns-18 c = parameter-by _ _ _ (c .before .before .count .ensures) (c .enum-told17 .given .1) refl
+returns-10 : tie.Need-returns-10
+returns-10 c = ignored-by _ _ _ (c .before .count .ensures) (c .match .keys10)
 
 pub parameter-taken-spec : {M : Type 1} → statement M
 parameter-taken-spec =
@@ -192,38 +137,29 @@ parameter-taken-spec =
     (tie.spec
     count-requires
     enum-told
-    enum-told-2
     sync-byte-requires
     put-video-requires
-    enum-told-3
-    enum-told-4
+    enum-told-2
     cchar-byte-requires
     put-video-requires-2
-    enum-told-5
-    enum-told-6
+    enum-told-3
     zoom-byte-requires
     put-video-requires-3
-    enum-told-7
+    enum-told-4
     curs-byte-requires
     put-cursor-requires
-    enum-told-8
+    enum-told-5
     ram-byte-requires
-    enum-told-9
+    enum-told-6
     pitch-byte-requires
-    enum-told-10
+    enum-told-7
     mask-byte-requires
     put-cursor-requires-2
-    enum-told-11
+    enum-told-8
     figs-byte-requires
     put-drawing-requires
-    enum-told-12
-    enum-told-13
-    enum-told-14
-    enum-told-15
     enum-known-c
     wdat-taken-requires
-    enum-told-16
-    enum-told-17
     returns
     returns-2
     returns-3
@@ -232,14 +168,6 @@ parameter-taken-spec =
     returns-6
     returns-7
     returns-8
-    returns-9
-    returns-10
-    returns-11
-    returns-12
-    returns-13
-    returns-14
-    returns-15
     same-length
-    returns-16
-    returns-17
-    returns-18)
+    returns-9
+    returns-10)

@@ -1,10 +1,11 @@
 -- 01's bench sheet, K1 to K12 and its last line, as one statement over a list: what each case gives by the definitions, and what the
--- sheet says. From K8 on, the host writes bytes to the ports and lets the controller run.
+-- sheet says. From K8 on the host writes entries to the ports and lets the controller run; those of K8 to K10 are what the translator
+-- makes of the two points.
 use mathlib.Core.Path.{_≡_}
 use mathlib.Core.Bool.{false, cond}
 use mathlib.Core.List.{List, [], _∷_, _++_}
-use Prim.Native.Nat.{ℕ, zero, suc, _+_, _-_, _*_, _/_, _%_}
-use lib.Dec.{eqb, ltb}
+use Prim.Native.Nat.{ℕ, zero, suc, _+_, _-_, _*_}
+use lib.Dec.{eqb}
 use lib.ListN.{replicate}
 use Rattle.dots.specs.declared.Cursor.{Cursor}
 use Rattle.dots.specs.declared.Operation.the-variants.{Replace, Complement, Reset, Set}
@@ -17,30 +18,28 @@ use Rattle.registers.specs.Size.{rectangleKind}
 use Rattle.registers.specs.Put.{putCursor, putDrawing, putOp, putRam, putProgress}
 use Rattle.registers.specs.State.{State, state}
 use Rattle.units.specs.Run.{Outcome, runDone}
-use Rattle.ports.specs.declared.Answer.{Answer}
-use Rattle.ports.specs.Port.{commandWritten, parameterWritten, byteRead}
+use Rattle.ports.specs.Port.{byteRead}
+use Rattle.records.specs.declared.Figure.the-variants.{Line}
+use Rattle.sheets.specs.Slots.{translation}
+use Rattle.sending.specs.Send.{written}
 
 -- ---- the bench
-
--- an entry for the ports; a command is its byte + 256, as in a translation
-abbrev pub written : ℕ → Registers → Answer
-written e r = cond (ltb e 256) (parameterWritten r e) (commandWritten r (e - 256))
 
 -- the registers and the memory that a run leaves
 abbrev pub leftBy : Outcome → State
 leftBy o = state (o .ran .regs) (o .mem)
 
--- the host writes entries, and after each lets the controller run
-abbrev pub sent : List ℕ → State → State
-sent [] s = s
-sent (e ∷ l) s = sent l (leftBy (runDone 64 (state (written e (s .regs) .regs) (s .mem))))
+-- the host writes entries, and after each lets the controller run (64 units are more than any entry here takes)
+abbrev pub played : State → List ℕ → State
+played s [] = s
+played s (e ∷ l) = played (leftBy (runDone 64 (state (written (s .regs) e .regs) (s .mem)))) l
 
 -- .. writes them with no run between, and keeps the numbers of refusal
 abbrev pub refusals : List ℕ → Registers → List ℕ
 refusals [] r = []
-refusals (e ∷ l) r = written e r .number ∷ refusals l (written e r .regs)
+refusals (e ∷ l) r = written r e .number ∷ refusals l (written r e .regs)
 
--- .. and reads n bytes
+-- .. reads n bytes
 abbrev pub bytesRead : ℕ → Registers → List ℕ
 bytesRead zero r = []
 bytesRead (suc n) r = byteRead r .value ∷ bytesRead n (byteRead r .regs)
@@ -61,20 +60,9 @@ dottedFrom y (suc n) l = rowWord y 1 l ∷ dottedFrom (y + 1) n l
 abbrev pub dotted : List ℕ → List ℕ
 dotted l = dottedFrom 0 16 l
 
--- both bytes of a number, low byte first, and 14 bits of a difference
-abbrev pub bytes : ℕ → List ℕ → List ℕ
-bytes n l = n % 256 ∷ n / 256 ∷ l
-
-abbrev pub minus14 : ℕ → ℕ → ℕ
-minus14 a b = (a + 16384 - b) % 16384
-
--- "PITCH P; .. WDAT word with the operation, .. CURS (3 bytes), PRAM 8 with FF FF, FIGS, FIGD"; "line L with the smallest fitting DIR,
--- DC N, D 2m - N, D2 2m - 2N, D1 2m": of pitch 1, with SET, from (x, y). (Which DIR is the smallest that fits is the translator's
--- `slopeOf`.)
-abbrev pub line : ℕ → ℕ → ℕ → ℕ → ℕ → List ℕ
-line x y dir n m =
-    0x147 ∷ 1 ∷ 0x123 ∷ 0x149 ∷ y ∷ 0 ∷ (16 * x) ∷ 0x178 ∷ 0xFF ∷ 0xFF ∷ 0x14C ∷ (8 + dir)
-    ∷ bytes n (bytes (minus14 (2 * m) n) (bytes (minus14 (2 * m) (2 * n)) (bytes (2 * m) (0x16C ∷ []))))
+-- the translator's entries for a line between two points, with SET, on a plane of one word a line
+abbrev pub line : ℕ → ℕ → ℕ → ℕ → List ℕ
+line x y x1 y1 = translation [] 1 (record { op = Set; figure = Line (record { x = x; y = y }) (record { x = x1; y = y1 }) } ∷ [])
 
 -- the place of EAD and mask
 abbrev pub standing : ℕ → ℕ → Cursor
@@ -117,22 +105,26 @@ bench =
     -- "K7: pitch 40, EAD 100, mask 8000, up-right: 61, 0001."
     ∷ case (stepOf 3 40 (standing 100 0x8000)) (standing 61 0x0001)
     -- "K8: line (0,0)-(5,2): DIR 1, D -1, D2 -6, D1 4; rows 0 0 1 1 2 2."
-    ∷ case (slope (sent (line 0 0 1 5 2) (over 0) .regs)) (1 ∷ (16384 - 1) ∷ (16384 - 6) ∷ 4 ∷ [])
-    ∷ case (sent (line 0 0 1 5 2) (over 0) .mem) (dotted (0 ∷ 0 ∷ 1 ∷ 1 ∷ 2 ∷ 2 ∷ []))
+    ∷ case (slope (played (over 0) (line 0 0 5 2) .regs)) (1 ∷ (16384 - 1) ∷ (16384 - 6) ∷ 4 ∷ [])
+    ∷ case (played (over 0) (line 0 0 5 2) .mem) (dotted (0 ∷ 0 ∷ 1 ∷ 1 ∷ 2 ∷ 2 ∷ []))
     -- "K9: (0,0)-(2,1) passes (1,1); K10: (2,1)-(0,0) passes (1,0)."
-    ∷ case (sent (line 0 0 1 2 1) (over 0) .mem) (dotted (0 ∷ 1 ∷ 1 ∷ []))
-    ∷ case (sent (line 2 1 5 2 1) (over 0) .mem) (dotted (0 ∷ 0 ∷ 1 ∷ []))
+    ∷ case (played (over 0) (line 0 0 2 1) .mem) (dotted (0 ∷ 1 ∷ 1 ∷ []))
+    ∷ case (played (over 0) (line 2 1 0 0) .mem) (dotted (0 ∷ 0 ∷ 1 ∷ []))
     -- "K11: chip rectangle with D = D2 = 0 draws nothing.": FIGD leaves all but the command in progress
-    ∷ case (sent (0x16C ∷ []) flat) (state (putProgress (flat .regs) (record { command = command.Figd; next = 0; low = 0 })) (flat .mem))
+    ∷ case (played flat (0x16C ∷ [])) (state (putProgress (flat .regs) (record { command = command.Figd; next = 0; low = 0 })) (flat .mem))
     -- "K12: CURS 51 00 10, then CURD: 51 00 00 02 00."
-    ∷ case (bytesRead 5 (sent (0x149 ∷ 0x51 ∷ 0x00 ∷ 0x10 ∷ 0x1E0 ∷ []) (over 0) .regs)) (0x51 ∷ 0x00 ∷ 0x00 ∷ 0x02 ∷ 0x00 ∷ [])
+    ∷ case (bytesRead 5 (played (over 0) (0x149 ∷ 0x51 ∷ 0x00 ∷ 0x10 ∷ 0x1E0 ∷ []) .regs)) (0x51 ∷ 0x00 ∷ 0x00 ∷ 0x02 ∷ 0x00 ∷ [])
     -- "The seventeenth waiting byte gets 3."
     ∷ case (refusals (replicate 17 0) freshSet) (replicate 16 0 ++ 3 ∷ [])
     -- "WDAT 30 with AB, mask FFFF, word 1234: 00AB."
-    ∷ case (sent (0x14A ∷ 0xFF ∷ 0xFF ∷ 0x130 ∷ 0xAB ∷ []) (over 0x1234) .mem) (0x00AB ∷ replicate 15 0)
+    ∷ case (played (over 0x1234) (0x14A ∷ 0xFF ∷ 0xFF ∷ 0x130 ∷ 0xAB ∷ []) .mem) (0x00AB ∷ replicate 15 0)
     ∷ []
 
 -- each case gives what the sheet says
 abbrev pub AllHold : List Case → Type 0
 AllHold [] = Unit {0}
 AllHold (c ∷ l) = (c .gives ≡ c .says) × AllHold l
+
+-- the whole sheet
+abbrev pub BenchHolds : Type 0
+BenchHolds = AllHold bench
