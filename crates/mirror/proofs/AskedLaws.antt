@@ -9,12 +9,13 @@ use Rattle.units.specs.declared.Ran.{Ran}
 use Rattle.units.specs.Run.{Outcome, outcome, runDone}
 use Rattle.mirror.specs.declared.PlainRegisters.{PlainRegisters}
 use Rattle.mirror.specs.declared.PlainRan.{PlainRan}
-use Rattle.mirror.specs.Form.{formB}
+use Rattle.mirror.specs.Form.{plainFormB}
 use Rattle.mirror.specs.Mirror.{fromPlain}
 use Rattle.mirror.specs.Asked.{plained, ranPlain, ranOn}
 
 module _ (f : ℕ) (p : PlainRegisters) (m : List ℕ) where
-  pub runs : {x : Registers} {d : Ran} {z : List ℕ} {y : PlainRan} → formB p ≡ true → x ≡ fromPlain p → outcome d z ≡ runDone f (state x m)
+  pub runs : {x : Registers} {d : Ran} {z : List ℕ} {y : PlainRan} → plainFormB p ≡ true → x ≡ fromPlain p
+      → outcome d z ≡ runDone f (state x m)
       → y ≡ ranPlain d
       → plained y z ≡ ranOn p m (runDone f (state (fromPlain p) m))
   runs s e q r =

@@ -14,7 +14,7 @@ use Rattle.mirror.specs.declared.PlainRegisters.{PlainRegisters}
 use Rattle.mirror.specs.declared.PlainRan.{PlainRan}
 use Rattle.mirror.specs.declared.PlainReport.{PlainReport}
 use Rattle.mirror.specs.declared.PlainTranslation.{PlainTranslation}
-use Rattle.mirror.specs.Form.{formB}
+use Rattle.mirror.specs.Form.{plainFormB}
 use Rattle.mirror.specs.Mirror.{fromPlain, toPlain}
 use Rattle.mirror.specs.Asked.{answerPlain, asked, Plained, plained, ranPlain, ranOn, report, told}
 use Rattle.mirror.proofs.MirrorLaws.{from-to, formed-to}
@@ -29,7 +29,7 @@ pub run-is : (n : ℕ) (r : Registers) (m : List ℕ) → ranOn (toPlain r) m (r
 run-is n r m = rw (formed-to r, from-to r)
 
 -- a register set that comes back may be handed in again
-pub formed-again : (a : Answer) → formB (answerPlain a .regs) ≡ true
+pub formed-again : (a : Answer) → plainFormB (answerPlain a .regs) ≡ true
 formed-again a = formed-to (a .regs)
 
 -- one answer and one memory of `kranichseil_run`

@@ -9,7 +9,7 @@ use Rattle.dots.proofs.OperationLaws.{operation-below, operation-back, operatio
 use Rattle.registers.specs.declared.Registers.{Registers}
 use Rattle.registers.proofs.BoolLaws.{and-left, and-right}
 use Rattle.mirror.specs.declared.PlainRegisters.{PlainRegisters}
-use Rattle.mirror.specs.Form.{commandFormB, workFormB, bitsB, formB}
+use Rattle.mirror.specs.Form.{commandFormB, workFormB, bitsB, plainFormB}
 use Rattle.mirror.specs.Mirror.{fromPlain, toPlain}
 use Rattle.mirror.proofs.NumberLaws.{bit-fits, mode-back, mode-fits, mode-there}
 use Rattle.mirror.proofs.NumberLaws.{command-fits}
@@ -35,8 +35,8 @@ from-to r = λ i.
     }
 
 -- .. and are formed
-pub formed-to : (r : Registers) → formB (toPlain r) ≡ true
-unfolding formB toPlain
+pub formed-to : (r : Registers) → plainFormB (toPlain r) ≡ true
+unfolding plainFormB toPlain
 formed-to r =
     rw (
       bit-fits (r .drawing .gd),
@@ -50,8 +50,8 @@ formed-to r =
     )
 
 -- plain numbers that are formed are those of the register set that they give
-pub to-from : (p : PlainRegisters) → formB p ≡ true → toPlain (fromPlain p) ≡ p
-unfolding formB fromPlain toPlain
+pub to-from : (p : PlainRegisters) → plainFormB p ≡ true → toPlain (fromPlain p) ≡ p
+unfolding plainFormB fromPlain toPlain
 to-from p s =
     let a = bitsB p in
     let b = ltb (p .op) 4 in

@@ -13,7 +13,7 @@ use Rattle.mirror.specs.declared.PlainAnswer.{PlainAnswer}
 use Rattle.mirror.specs.declared.PlainRan.{PlainRan}
 use Rattle.mirror.specs.declared.PlainReport.{PlainReport}
 use Rattle.mirror.specs.declared.PlainTranslation.{PlainTranslation}
-use Rattle.mirror.specs.Form.{formB}
+use Rattle.mirror.specs.Form.{plainFormB}
 use Rattle.mirror.specs.Mirror.{toPlain}
 
 abbrev pub answerPlain : Answer → PlainAnswer
@@ -24,7 +24,7 @@ refusedPlain p = record { number = 1; value = 0; regs = p }
 
 -- a port asked with p, where the controller would answer a
 abbrev pub asked : PlainRegisters → Answer → PlainAnswer
-asked p a = cond (formB p) (answerPlain a) (refusedPlain p)
+asked p a = cond (plainFormB p) (answerPlain a) (refusedPlain p)
 
 -- a run's answer, with the memory that it leaves
 pub record Plained : Type 0 where
@@ -40,7 +40,7 @@ ranPlain d = record { number = d .number; count = d .count; why = d .why; regs =
 -- a run asked with p and the memory m, where the controller would answer o; memory is "unaltered by a refusal"
 abbrev pub ranOn : PlainRegisters → List ℕ → Run → Plained
 ranOn p m o =
-    cond (formB p) (plained (ranPlain (o .ran)) (o .mem)) (plained (record { number = 1; count = 0; why = 0; regs = p }) m)
+    cond (plainFormB p) (plained (ranPlain (o .ran)) (o .mem)) (plained (record { number = 1; count = 0; why = 0; regs = p }) m)
 
 -- the same run by reference: the report, the registers behind the reference and the memory together are the answer by value
 abbrev pub reportOf : PlainRan → PlainReport

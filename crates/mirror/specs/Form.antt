@@ -5,10 +5,11 @@ use mathlib.Core.Bool.{Bool, true, false, cond, _&&_, _||_}
 use lib.Dec.{eqb, ltb}
 use Rattle.mirror.specs.declared.PlainWork.{PlainWork}
 use Rattle.mirror.specs.declared.PlainRegisters.{PlainRegisters}
+use Rattle.mirror.specs.Numbers.{operations, modes, transfers, commands, wdatNumber, rdatNumber}
 
--- 15 and 16 are WDAT and RDAT, with one of three transfers
+-- WDAT and RDAT have one of the transfers beside them, any other command 0
 abbrev pub commandFormB : ℕ → ℕ → Bool
-commandFormB n x = cond (eqb n 15 || eqb n 16) (ltb x 3) (ltb n 18 && eqb x 0)
+commandFormB n x = cond (eqb n wdatNumber || eqb n rdatNumber) (ltb x transfers) (ltb n commands && eqb x 0)
 
 abbrev pub noFigureB : PlainWork → Bool
 noFigureB w = eqb (w .dot) 0 && eqb (w .d) 0
@@ -24,12 +25,13 @@ workFormB w =
     cond (eqb (w .kind) 0) (noFigureB w && noCharacterB w && noReadingB w)
     (cond (eqb (w .kind) 1) (noCharacterB w && noReadingB w)
     (cond (eqb (w .kind) 2) (noFigureB w && noReadingB w)
-    (cond (eqb (w .kind) 3) (noFigureB w && noCharacterB w && ltb (w .transfer) 3)
+    (cond (eqb (w .kind) 3) (noFigureB w && noCharacterB w && ltb (w .transfer) transfers)
     false)))
 
 abbrev pub bitsB : PlainRegisters → Bool
 bitsB p = ltb (p .drawing .gd) 2 && ltb (p .video .display) 2 && ltb (p .video .vsync) 2 && ltb (p .pen .set) 2
 
-unfoldable pub formB : PlainRegisters → Bool
-formB p =
-    bitsB p && ltb (p .op) 4 && ltb (p .mode) 2 && commandFormB (p .progress .command) (p .progress .transfer) && workFormB (p .work)
+unfoldable pub plainFormB : PlainRegisters → Bool
+plainFormB p =
+    bitsB p && ltb (p .op) operations && ltb (p .mode) modes && commandFormB (p .progress .command) (p .progress .transfer) && workFormB
+    (p .work)

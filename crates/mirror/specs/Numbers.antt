@@ -10,6 +10,26 @@ use Rattle.registers.specs.declared.Command.{Command}
 use Rattle.registers.specs.declared.Command.the-variants.{Nothing, Reset, Vsync, Cchar, Start, Zoom, Curs, Pram, Pitch, Mask, Figs, Figd}
 use Rattle.registers.specs.declared.Command.the-variants.{Gchrd, Curd, Lprd, Wdat, Rdat, Unknown}
 
+-- how many operations, modes, transfers and commands there are, so that each one's number is below
+abbrev pub operations : ℕ
+operations = 4
+
+abbrev pub modes : ℕ
+modes = 2
+
+abbrev pub transfers : ℕ
+transfers = 3
+
+abbrev pub commands : ℕ
+commands = 18
+
+-- the two commands that a transfer stands beside
+abbrev pub wdatNumber : ℕ
+wdatNumber = 15
+
+abbrev pub rdatNumber : ℕ
+rdatNumber = 16
+
 abbrev pub bitOf : ℕ → Bool
 bitOf n = eqb n 1
 

@@ -1,5 +1,5 @@
 -- `formed` is the definition, part by part.
-use Rattle.mirror.specs.Form.{formB}
+use Rattle.mirror.specs.Form.{plainFormB}
 use borrow.Author.Needs.{needs}
 use Rattle.mirror.proofs.form.formed.Statement.{statement}
 use Rattle.mirror.proofs.form.formed.Tie as tie
@@ -14,7 +14,7 @@ work-formed-requires : tie.Need-work-formed-requires
 work-formed-requires c κs = search needs
 
 returns : tie.Need-returns
-unfolding formB
+unfolding plainFormB
 returns c = rw (
   c .before .before .work-formed .ensures,
   c .before .before .before .command-formed .ensures,
