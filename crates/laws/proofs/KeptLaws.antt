@@ -7,7 +7,7 @@ use Prim.Native.Nat.{ℕ, zero, suc, _≤_, _<_}
 use lib.ListN.{length, getD, set, length-set}
 use Rattle.dots.specs.declared.Cursor.{Cursor}
 use Rattle.dots.specs.declared.Operation.{Operation}
-use Rattle.dots.specs.Step.{Fits}
+use Rattle.dots.specs.Step.{Fits, addresses}
 use Rattle.dots.specs.Cycle.{metBy, cycled}
 use Rattle.dots.proofs.LogicLaws.{combined-lt}
 use Rattle.registers.specs.declared.Mode.{Mode}
@@ -39,7 +39,7 @@ pub record Lawful (r : Registers) : Type 0 where
   pub cursor : Fits (r .cursor)
   pub drawing : DrawingFits (r .drawing)
   pub ram : length (r .ram) ≡ 16
-  pub pen : r .pen .address < 262144
+  pub pen : r .pen .address < addresses
   pub buffer : Queue (r .mode) (r .buffer)
   pub progress : r .progress .next ≤ 16
   pub work : Going (r .drawing) (r .video .zoom) (r .mode) (r .work)
@@ -88,7 +88,7 @@ module _ (r : Registers) (l : Lawful r) where
   pub video-kept : r .work ≡ Idle → (v : Video) → Lawful (putVideo r v)
   video-kept e v = search idle
 
-  pub pen-kept : (p : Pen) → p .address < 262144 → Lawful (putPen r p)
+  pub pen-kept : (p : Pen) → p .address < addresses → Lawful (putPen r p)
   pen-kept p h = search
 
   pub progress-kept : (p : Progress) → p .next ≤ 16 → Lawful (putProgress r p)

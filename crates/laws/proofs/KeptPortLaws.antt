@@ -6,6 +6,7 @@ use Prim.Native.Nat.{ℕ, _+_, _<_}
 use native.Mathlib.Omega.{arith}
 use lib.Dec.{eqb, leb}
 use borrow.Author.Tests.{leb-false}
+use Rattle.dots.specs.Step.{addresses}
 use Rattle.registers.specs.declared.Mode.{Mode}
 use Rattle.registers.specs.declared.Mode.the-variants.{Write, Read}
 use Rattle.registers.specs.declared.Work.the-variants.{Idle}
@@ -71,4 +72,4 @@ module _ (r : Registers) (l : Lawful r) where
   unfolding penPosted
   pen-posted-kept a =
       either Answers (soundB r)
-      (cases Answers (leb 262144 a) (λ t. l) (λ t. pen-kept r l (record { address = a; set = true }) (leb-false 262144 a t))) l
+      (cases Answers (leb addresses a) (λ t. l) (λ t. pen-kept r l (record { address = a; set = true }) (leb-false addresses a t))) l

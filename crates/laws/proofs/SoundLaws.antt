@@ -8,6 +8,7 @@ use native.Mathlib.Omega.{arith}
 use lib.Dec.{ltb, leb}
 use lib.ListN.{getD, take}
 use borrow.Author.Tests.{ltb-true, leb-true, lt-ltb, le-leb}
+use Rattle.dots.specs.Step.{addresses}
 use Rattle.registers.specs.declared.Mode.{Mode}
 use Rattle.registers.specs.declared.Mode.the-variants.{Write, Read}
 use Rattle.registers.specs.declared.Work.{Work}
@@ -41,7 +42,7 @@ pub record BufferFits (m : Mode) (b : Buffer) : Type 0 where
 abbrev pub Inside : Drawing → ℕ → Work → Type 0
 Inside f zoom Idle = Unit {0}
 Inside f zoom (Figure k d) = (k < dotsOf f) × (d < 16384)
-Inside f zoom (Character row column start) = (row < rowsOf f zoom) × (column < columnsOf f zoom) × (start .ead < 262144)
+Inside f zoom (Character row column start) = (row < rowsOf f zoom) × (column < columnsOf f zoom) × (start .ead < addresses)
 Inside f zoom (Reading item t) = item < f .dc
 
 -- a figure in progress only in write mode and a read only in read mode
@@ -52,9 +53,9 @@ Suits m (Character row column start) = m ≡ Write
 Suits m (Reading item t) = m ≡ Read
 
 pub record Sound (r : Registers) : Type 0 where
-  pub cursor : r .cursor .ead < 262144
+  pub cursor : r .cursor .ead < addresses
   pub drawing : DrawingFits (r .drawing)
-  pub pen : r .pen .address < 262144
+  pub pen : r .pen .address < addresses
   pub progress : r .progress .next ≤ 16
   pub buffer : BufferFits (r .mode) (r .buffer)
   pub place : Inside (r .drawing) (r .video .zoom) (r .work)
@@ -146,7 +147,7 @@ place-parts f zoom (Character row column start) e =
     let both : (high && wide) ≡ true = and-left (high && wide) (cursorB start) e in (
       ltb-true row (rowsOf f zoom) (and-left high wide both),
       ltb-true column (columnsOf f zoom) (and-right high wide both),
-      ltb-true (start .ead) 262144 (and-right (high && wide) (cursorB start) e),
+      ltb-true (start .ead) addresses (and-right (high && wide) (cursorB start) e),
     )
 place-parts f zoom (Reading item t) e = ltb-true item (f .dc) e
 
@@ -154,7 +155,7 @@ place-whole : (f : Drawing) (zoom : ℕ) (w : Work) → Inside f zoom w → plac
 place-whole f zoom Idle p = refl
 place-whole f zoom (Figure k d) p = rw (lt-ltb k (dotsOf f) (p .0), lt-ltb d 16384 (p .1))
 place-whole f zoom (Character row column start) p =
-    rw (lt-ltb row (rowsOf f zoom) (p .0), lt-ltb column (columnsOf f zoom) (p .1), lt-ltb (start .ead) 262144 (p .2))
+    rw (lt-ltb row (rowsOf f zoom) (p .0), lt-ltb column (columnsOf f zoom) (p .1), lt-ltb (start .ead) addresses (p .2))
 place-whole f zoom (Reading item t) p = lt-ltb item (f .dc) p
 
 write-mode : (m : Mode) → writeB m ≡ true → m ≡ Write
@@ -194,9 +195,9 @@ sound-parts r e₆ =
     let e₂ : pen ≡ true = and-left pen (progressB (r .progress)) e₃ in
     let e₁ : drawing ≡ true = and-left drawing (penB (r .pen)) e₂ in
     record {
-      cursor = ltb-true (r .cursor .ead) 262144 (and-left cursor (drawingB (r .drawing)) e₁);
+      cursor = ltb-true (r .cursor .ead) addresses (and-left cursor (drawingB (r .drawing)) e₁);
       drawing = drawing-parts (r .drawing) (and-right cursor (drawingB (r .drawing)) e₁);
-      pen = ltb-true (r .pen .address) 262144 (and-right drawing (penB (r .pen)) e₂);
+      pen = ltb-true (r .pen .address) addresses (and-right drawing (penB (r .pen)) e₂);
       progress = leb-true (r .progress .next) 16 (and-right pen (progressB (r .progress)) e₃);
       buffer = buffer-parts (r .mode) (r .buffer) (and-right progress (bufferB (r .mode) (r .buffer)) e₄);
       place = place-parts (r .drawing) (r .video .zoom) (r .work) (and-right buffer (placeB (r .drawing) (r .video .zoom) (r .work)) e₅);
@@ -207,9 +208,9 @@ pub sound-whole : (r : Registers) → Sound r → soundB r ≡ true
 unfolding soundB
 sound-whole r s =
     rw (
-      lt-ltb (r .cursor .ead) 262144 (s .cursor),
+      lt-ltb (r .cursor .ead) addresses (s .cursor),
       drawing-whole (r .drawing) (s .drawing),
-      lt-ltb (r .pen .address) 262144 (s .pen),
+      lt-ltb (r .pen .address) addresses (s .pen),
       le-leb (r .progress .next) 16 (s .progress),
       buffer-whole (r .mode) (r .buffer) (s .buffer),
       place-whole (r .drawing) (r .video .zoom) (r .work) (s .place),

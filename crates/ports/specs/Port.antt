@@ -2,6 +2,7 @@
 use Prim.Native.Nat.{ℕ, zero, suc, _+_, _*_, _%_}
 use mathlib.Core.Bool.{Bool, true, false, cond, _&&_}
 use lib.Dec.{eqb, ltb, leb}
+use Rattle.dots.specs.Step.{addresses}
 use Rattle.registers.specs.declared.Mode.{Mode}
 use Rattle.registers.specs.declared.Mode.the-variants.{Write, Read}
 use Rattle.registers.specs.declared.Work.{Work}
@@ -93,4 +94,4 @@ penPut r a = putPen r (record { address = a; set = true })
 -- "The host may post an 18-bit light-pen address"; "6: pen address 262,144 or more"
 unfoldable pub penPosted : Registers → ℕ → Answer
 penPosted r a =
-    cond (soundB r) (cond (leb 262144 a) (refused 6 r) (granted 0 (penPut r a))) (refused 1 r)
+    cond (soundB r) (cond (leb addresses a) (refused 6 r) (granted 0 (penPut r a))) (refused 1 r)

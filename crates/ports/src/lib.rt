@@ -248,7 +248,7 @@ pub fn post_pen(r: Registers, address: u32) -> Answer
     if !registers::sound(r) {
         return refuse(1, r);
     }
-    if 262144 <= address {
+    if dots::ADDRESSES <= address {
         return refuse(6, r);
     }
     grant(0, put_pen(r, address))

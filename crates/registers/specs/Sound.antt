@@ -6,6 +6,7 @@ use mathlib.Core.List.{List, [], _∷_}
 use lib.Dec.{ltb, leb}
 use lib.ListN.{take}
 use Rattle.dots.specs.declared.Cursor.{Cursor}
+use Rattle.dots.specs.Step.{addresses}
 use Rattle.registers.specs.declared.Mode.{Mode}
 use Rattle.registers.specs.declared.Mode.the-variants.{Write, Read}
 use Rattle.registers.specs.declared.Work.{Work}
@@ -25,7 +26,7 @@ allBelow n (x ∷ xs) = ltb x n && allBelow n xs
 
 -- "EAD has 18 bits"; the mask's 16 are its type's, as are all widths of 8, 16 and 32 bits
 abbrev pub cursorB : Cursor → Bool
-cursorB c = ltb (c .ead) 262144
+cursorB c = ltb (c .ead) addresses
 
 -- five type bits, three of DIR; "DC, D, D2, D1, DM 14 bits"
 abbrev pub drawingB : Drawing → Bool
@@ -35,7 +36,7 @@ drawingB f =
 
 -- "an 18-bit light-pen address"
 abbrev pub penB : Pen → Bool
-penB p = ltb (p .address) 262144
+penB p = ltb (p .address) addresses
 
 -- where the next parameter goes
 abbrev pub progressB : Progress → Bool

@@ -238,7 +238,7 @@ pub fn columns_of(f: Drawing, zoom: u8) -> u32
 fn cursor_fits(c: Cursor) -> bool
     ensures { λ t. ⌜ t ≡ cursorB c ⌝ }
 {
-    c.ead < 262144
+    c.ead < dots::ADDRESSES
 }
 
 fn drawing_fits(f: Drawing) -> bool
@@ -397,7 +397,7 @@ pub fn sound(r: Registers) -> bool
     let kept = work_fits(mode, work);
     cursor
         & drawing
-        & (r.pen.address < 262144)
+        & (r.pen.address < dots::ADDRESSES)
         & (r.progress.next <= PARAMETERS)
         & held
         & place

@@ -1,4 +1,5 @@
 -- `post_pen` refuses an unsound set, and else is the definition (`turned-away`, `let-through`).
+use Rattle.dots.specs.Step.{addresses}
 use Rattle.ports.proofs.PortLaws.{turned-away, let-through}
 use Rattle.ports.specs.Port.{penPosted}
 use borrow.Author.Tests.{not-true, not-false, le-leb, lt-leb}
@@ -23,7 +24,7 @@ returns-2 : tie.Need-returns-2
 unfolding penPosted
 returns-2 c =
     let-through _ _ (c .before .before .before .sound .ensures) (not-false _ (c .before .before .if1 .left))
-    (rw (le-leb 262144 (c .before .before .before .before .args .address) (c .before .if2 .taken)) (c .refuse2 .ensures))
+    (rw (le-leb addresses (c .before .before .before .before .args .address) (c .before .if2 .taken)) (c .refuse2 .ensures))
 
 put-pen-requires : tie.Need-put-pen-requires
 put-pen-requires c κs = search needs
@@ -36,7 +37,7 @@ unfolding penPosted
 returns-3 c =
     let-through _ _ (c .before .before .before .before .sound .ensures) (not-false _ (c .before .before .before .if1 .left))
     (rw (
-      lt-leb 262144 (c .before .before .before .before .before .args .address) (c .before .before .if2 .left),
+      lt-leb addresses (c .before .before .before .before .before .args .address) (c .before .before .if2 .left),
       ← c .before .put-pen .ensures,
     ) (c .grant .ensures))
 
