@@ -1,7 +1,6 @@
 -- Every figure that a sheet holds lies in the plane: a figure that was decoded has a factor of 1 to 16, it is taken only where its corners
--- or its square pass the test of 19, and a record that is refused gives none. No word of what else is refused. And that test is true
--- exactly
--- if every dot of the figure's shape lies in the plane, false exactly if one lies outside.
+-- or its square pass the test of 19, and a record that is refused gives none. No word of what else is refused.
+-- And that test is true exactly if every dot of the figure's shape lies in the plane, false exactly if one lies outside.
 use mathlib.Core.Path.{_≡_, refl}
 use mathlib.Core.Bool.{Bool, true, false, cond, _&&_}
 use mathlib.Core.List.{List, [], _∷_, _++_}
