@@ -1,5 +1,6 @@
 -- Every figure that a sheet holds lies in the plane: a figure that was decoded has a factor of 1 to 16, it is taken only where its corners
 -- or its square pass the test of 19, and a record that is refused gives none. No word of what else is refused.
+-- And that test is true exactly if every dot of the figure's shape lies in the plane, false exactly if one lies outside.
 use mathlib.Core.Path.{_≡_, refl}
 use mathlib.Core.Bool.{Bool, true, false, cond, _&&_}
 use mathlib.Core.List.{List, [], _∷_, _++_}
@@ -8,8 +9,9 @@ use native.Mathlib.Omega.{arith}
 use lib.Dec.{eqb, ltb, leb}
 use borrow.Author.Tests.{ltb-true, leb-true, eqb-false}
 use Rattle.dots.specs.Operation.{operationOf}
-use Rattle.geometry.specs.Plane.{InPlane}
+use Rattle.geometry.specs.Plane.{InPlane, dotOn, lineOn, borderOn, squareOn}
 use Rattle.geometry.proofs.TestLaws.{cases, and-both}
+use Rattle.geometry.proofs.OutsideLaws.{Judges, dot-judged, line-judged, border-judged, square-judged}
 use Rattle.records.specs.declared.Raw.{Raw}
 use Rattle.records.specs.declared.Room.{Room}
 use Rattle.records.specs.declared.Point.{Point}
@@ -123,3 +125,17 @@ module _ (p h k : ℕ) where
     pub sheet-inside : (n : ℕ) → AllInside p h (figures s m n)
     unfolding figures
     sheet-inside n = in-from (50 * n) 0
+
+-- ---- 19 is "a dot outside"
+-- the test of 19 judges the figure's own shape, dot by dot
+abbrev pub FigureJudged : ℕ → ℕ → ℕ → Figure → Type 0
+FigureJudged p h k (Dot a) = Judges p h (insideB (roomOf p h k) (Dot a)) (dotOn (a .x) (a .y))
+FigureJudged p h k (Line a b) = Judges p h (insideB (roomOf p h k) (Line a b)) (lineOn (a .x) (a .y) (b .x) (b .y))
+FigureJudged p h k (Rectangle a b) = Judges p h (insideB (roomOf p h k) (Rectangle a b)) (borderOn (a .x) (a .y) (b .x) (b .y))
+FigureJudged p h k (Glyph a n g) = Judges p h (insideB (roomOf p h k) (Glyph a n g)) (squareOn (a .x) (a .y) g)
+
+pub figure-judged : (p h k : ℕ) (f : Figure) → Factored f → FigureJudged p h k f
+figure-judged p h k (Dot a) w = dot-judged p h (a .x) (a .y)
+figure-judged p h k (Line a b) w = line-judged p h (a .x) (a .y) (b .x) (b .y)
+figure-judged p h k (Rectangle a b) w = border-judged p h (a .x) (a .y) (b .x) (b .y)
+figure-judged p h k (Glyph a n g) w = square-judged (a .x) (a .y) g (w .0) p h

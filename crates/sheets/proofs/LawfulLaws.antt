@@ -8,18 +8,18 @@ use Prim.Native.Nat.{ℕ, _+_, _-_, _*_, _/_, _%_, _<_, _≤_}
 use native.Mathlib.Omega.{arith}
 use lib.Dec.{eqb}
 use borrow.Author.Tests.{eqb-true, eqb-false, eq-eqb, leb-true, le-leb}
-use Rattle.geometry.specs.Plane.{dotOn, lineOn, borderOn, squareOn}
+use Rattle.geometry.specs.Plane.{Shape}
 use Rattle.geometry.proofs.OutsideLaws.{Outside, Judges, judges-only, outside-only, dot-judged, line-judged, border-judged, square-judged}
 use Rattle.records.specs.declared.Raw.{Raw}
 use Rattle.records.specs.declared.Room.{Room}
 use Rattle.records.specs.declared.Record.{Record}
-use Rattle.records.specs.declared.Figure.the-variants.{Dot, Line, Rectangle, Glyph}
+use Rattle.records.specs.declared.Figure.{Figure}
 use Rattle.records.specs.declared.Refusal.the-variants.{Form, GlyphNumber, Factor}
 use Rattle.records.specs.declared.Refusal.the-variants as refusals
 use Rattle.records.specs.declared.Decoded.{Decoded}
 use Rattle.records.specs.declared.Decoded.the-variants.{Good, Refused}
 use Rattle.records.specs.Raw.{recordPlace}
-use Rattle.records.specs.Decode.{point, recordFormB, knownB, factorB, figureOf, decodedOf}
+use Rattle.records.specs.Decode.{recordFormB, knownB, factorB, figureOf, decodedOf}
 use Rattle.records.specs.Inside.{insideB, judged}
 use Rattle.records.specs.Refused.{numberOf}
 use Rattle.records.proofs.TestLaws.{and-both}
@@ -94,22 +94,20 @@ module _ (p h glyphs : ℕ) where
   abbrev m : Room
   m = record { across = 16 * p; down = h; glyphs = glyphs }
 
+  by-test : (t : Bool) (f g : Figure) (u v : Shape) → Judges p h (insideB m f) u → (t ≡ false → Judges p h (insideB m g) v)
+      → Judges p h (insideB m (cond t f g)) (cond t u v)
+  by-test true f g u v j k = j
+  by-test false f g u v j k = k refl
+
   -- each kind of shape is judged by its own test
   pub record-judged : (r : Raw) → (eqb (r .kind) 1 ≡ false → eqb (r .kind) 2 ≡ false → eqb (r .kind) 3 ≡ false → 0 < r .factor)
       → Judges p h (insideB m (figureOf r)) (recordOn r)
   unfolding figureOf
-  record-judged r some = go (eqb (r .kind) 1) (eqb (r .kind) 2) (eqb (r .kind) 3) some
-    where
-      go : (a b c : Bool) → (a ≡ false → b ≡ false → c ≡ false → 0 < r .factor)
-          → Judges p h
-          (insideB m (cond a (Dot (point (r .x) (r .y))) (cond b (Line (point (r .x) (r .y)) (point (r .x1) (r .y1)))
-          (cond c (Rectangle (point (r .x) (r .y)) (point (r .x1) (r .y1))) (Glyph (point (r .x) (r .y)) (r .number) (r .factor))))))
-          (cond a (dotOn (r .x) (r .y)) (cond b (lineOn (r .x) (r .y) (r .x1) (r .y1))
-          (cond c (borderOn (r .x) (r .y) (r .x1) (r .y1)) (squareOn (r .x) (r .y) (r .factor)))))
-      go true b c f = dot-judged p h (r .x) (r .y)
-      go false true c f = line-judged p h (r .x) (r .y) (r .x1) (r .y1)
-      go false false true f = border-judged p h (r .x) (r .y) (r .x1) (r .y1)
-      go false false false f = square-judged (r .x) (r .y) (r .factor) (f refl refl refl) p h
+  record-judged r some =
+      by-test (eqb (r .kind) 1) _ _ _ _ (dot-judged p h (r .x) (r .y))
+      (λ a. by-test (eqb (r .kind) 2) _ _ _ _ (line-judged p h (r .x) (r .y) (r .x1) (r .y1))
+      (λ b. by-test (eqb (r .kind) 3) _ _ _ _ (border-judged p h (r .x) (r .y) (r .x1) (r .y1))
+      (λ c. square-judged (r .x) (r .y) (r .factor) (some a b c) p h)))
 
   some-factor : (r : Raw) → Formed r → (r .kind ≡ 4 → (1 ≤ r .factor) × (r .factor ≤ 16))
       → eqb (r .kind) 1 ≡ false → eqb (r .kind) 2 ≡ false → eqb (r .kind) 3 ≡ false → 0 < r .factor
