@@ -6,16 +6,13 @@ use Rattle.bench.proofs.turns.Statement.{statement}
 use Rattle.bench.proofs.turns.Tie as tie
 
 abbrev Inv-loop : tie.InvT-loop
-Inv-loop input₀ line₀ mem₀ glyphs₀ sheet₀ entries₀ out₀ b₀ left₀ input line mem glyphs sheet entries out b left =
-    (length input ≡ length input₀) × (length line ≡ length line₀) × (length mem ≡ length mem₀) × (length glyphs ≡ length glyphs₀)
-    × (length sheet ≡ length sheet₀) × (length entries ≡ length entries₀) × (length out ≡ length out₀)
+Inv-loop input₀ line₀ mem₀ papers₀ out₀ b₀ left₀ input line mem papers out b left =
+    (length input ≡ length input₀) × (length line ≡ length line₀) × (length mem ≡ length mem₀) × (length papers ≡ length papers₀)
+    × (length out ≡ length out₀)
 
 abbrev μ-loop : tie.MeasureT-loop
-μ-loop input₀ line₀ mem₀ glyphs₀ sheet₀ entries₀ out₀ b₀ left₀ input line mem glyphs sheet entries out b left =
+μ-loop input₀ line₀ mem₀ papers₀ out₀ b₀ left₀ input line mem papers out b left =
     left
-
-fresh-requires : tie.Need-fresh-requires Inv-loop μ-loop
-fresh-requires c κs = search needs
 
 start-requires : tie.Need-start-requires Inv-loop μ-loop
 start-requires c κs = search needs
@@ -62,12 +59,6 @@ same-length-4 c = search needs
 same-length-5 : tie.Need-same-length-5 Inv-loop μ-loop
 same-length-5 c = search needs
 
-same-length-6 : tie.Need-same-length-6 Inv-loop μ-loop
-same-length-6 c = search needs
-
-same-length-7 : tie.Need-same-length-7 Inv-loop μ-loop
-same-length-7 c = search needs
-
 returns : tie.Need-returns Inv-loop μ-loop
 returns c = search needs
 
@@ -77,7 +68,6 @@ turns-spec =
     (tie.spec
     Inv-loop
     μ-loop
-    fresh-requires
     start-requires
     start-requires-2
     loop-holds
@@ -93,6 +83,4 @@ turns-spec =
     same-length-3
     same-length-4
     same-length-5
-    same-length-6
-    same-length-7
     returns)

@@ -1,0 +1,10 @@
+// The lines of the bench that drive the controller and look at it.
+mod listed;
+mod memory;
+mod port;
+mod show;
+
+pub use memory::Worked;
+pub use memory::memory_done;
+pub use port::port_done;
+pub use show::shown;

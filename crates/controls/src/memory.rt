@@ -1,0 +1,74 @@
+// The lines to the memory, and the run over it.
+use console::desk::Reply;
+use orders::Memory;
+use registers::Registers;
+use units::Ran;
+
+// What such a line does: the registers and the memory's length after it, and its answer.
+pub struct Worked {
+    pub regs: Registers,
+    pub words: usize,
+    pub reply: Reply,
+}
+
+fn clear_first(mem: &mut [u16], words: usize) {
+    let n = buffers::words_used(words, mem);
+    buffers::clear(&mut mem[..n]);
+}
+
+// `M n`: fresh registers and a memory of n zero words.
+fn fresh(r: Registers, words: usize, n: u64, mem: &mut [u16]) -> Worked {
+    let wanted = n as usize;
+    if !units::length_right(wanted) {
+        return Worked {
+            regs: r,
+            words: words,
+            reply: Reply::One(b'M', 2),
+        };
+    }
+    clear_first(mem, wanted);
+    Worked {
+        regs: registers::fresh(),
+        words: wanted,
+        reply: Reply::One(b'M', 0),
+    }
+}
+
+// `W a v`: a word of the memory.
+fn word(words: usize, a: u64, v: u16, mem: &mut [u16]) -> Reply {
+    let at = a as usize;
+    if words <= at {
+        return Reply::Unknown;
+    }
+    buffers::store(mem, at, v);
+    Reply::One(b'W', 0)
+}
+
+// A run over the words that the memory has.
+fn run_within(r: Registers, mem: &mut [u16], words: usize, budget: u32) -> Ran {
+    let n = buffers::words_used(words, mem);
+    units::run(r, &mut mem[..n], budget)
+}
+
+// `U n`
+fn run(a: Ran, words: usize) -> Worked {
+    let q = a.regs;
+    Worked {
+        regs: q,
+        words: words,
+        reply: Reply::Three(b'U', a.number as u64, a.count as u64, a.why as u64),
+    }
+}
+
+// What a line to the memory does.
+pub fn memory_done(r: Registers, words: usize, m: Memory, mem: &mut [u16]) -> Worked {
+    match m {
+        Memory::Fresh(n) => fresh(r, words, n, mem),
+        Memory::Run(n) => run(run_within(r, mem, words, n), words),
+        Memory::Word(a, v) => Worked {
+            regs: r,
+            words: words,
+            reply: word(words, a, v, mem),
+        },
+    }
+}
