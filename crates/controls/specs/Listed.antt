@@ -17,7 +17,7 @@ abbrev pub bitNumber : Bool → ℕ
 bitNumber true = 1
 bitNumber false = 0
 
--- "ead mask pitch dc d d2 d1 dm figs gd op zoom"; "op is 0 to 3"; "figs is FIGS' first byte (type and DIR)"
+-- "ead mask pitch dc d d2 d1 dm figs gd op zoom"; "figs is FIGS' first byte (type and DIR); op is 0 to 3"
 abbrev pub firstFields : Registers → List ℕ
 firstFields r =
     r .cursor .ead ∷ r .cursor .mask ∷ r .pitch ∷ r .drawing .dc ∷ r .drawing .d ∷ r .drawing .d2 ∷ r .drawing .d1 ∷ r .drawing .dm

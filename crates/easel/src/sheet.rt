@@ -5,7 +5,6 @@ use console::desk::Desk;
 use console::desk::Done;
 use console::desk::Reply;
 use console::output;
-use ports::Answer;
 use registers::Registers;
 
 // The sheet is translated into a room of that many entries.
@@ -46,47 +45,13 @@ pub struct Sent {
     pub regs: Registers,
 }
 
-// The controller is run until it is idle, or a read awaits room. The longest figure, a character of 262,144 rows of 262,128 dots,
-// is done within 16 whole budgets, so 64 runs are more than enough. The sum stays far below 64 bits.
-fn until_idle(r: Registers, mem: &mut [u16]) -> Sent {
-    let mut q = r;
-    let mut done: u64 = 0;
-    let mut left: u32 = 64;
-    while 0 < left {
-        let a = units::run(q, mem, 4294967295);
-        q = a.regs;
-        done = std::num::wrapping_add_u64(done, a.count as u64);
-        if a.why != 1 {
-            return Sent {
-                units: done,
-                regs: q,
-            };
-        }
-        left -= 1;
-    }
-    Sent {
-        units: done,
-        regs: q,
-    }
-}
-
-// An entry goes to its port.
-fn send(r: Registers, e: u16) -> Answer {
-    let b = (e % 256) as u8;
-    if e < 256 {
-        return ports::write_parameter(r, b);
-    }
-    ports::write_command(r, b)
-}
-
-// Each entry is sent and the controller run after it; one that is refused changes nothing.
+// Each entry is sent and the controller run until it is idle, or a read awaits room; one that is refused changes nothing.
 fn send_all(r: Registers, entries: &[u16], mem: &mut [u16]) -> Sent {
     let mut q = r;
     let mut done: u64 = 0;
     let mut i: usize = 0;
     while i < entries.len() {
-        let a = send(q, entries[i]);
-        let s = until_idle(a.regs, mem);
+        let s = sends::finish(sends::to_port(q, entries[i]), mem);
         q = s.regs;
         done = std::num::wrapping_add_u64(done, s.units);
         i += 1;

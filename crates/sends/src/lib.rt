@@ -16,7 +16,7 @@ pub struct Sent {
 }
 
 // An entry goes to its port: a byte, and 256 more for a command. Where the port refuses, the set given is left.
-fn to_port(r: Registers, e: u16) -> Registers
+pub fn to_port(r: Registers, e: u16) -> Registers
     ensures { λ q. ⌜ q ≡ written r e .regs ⌝ }
 {
     let byte = (e % 256) as u8;

@@ -48,6 +48,9 @@ operation-number-requires c κs = search needs
 cast-t19 : tie.Need-cast-t19
 cast-t19 c = search needs
 
+cast-t20 : tie.Need-cast-t20
+cast-t20 c = search needs
+
 returns : tie.Need-returns
 returns c = rw (c .before .operation-number .ensures, c .before .before .bit .ensures)
 
@@ -70,4 +73,5 @@ first-spec =
     bit-requires
     operation-number-requires
     cast-t19
+    cast-t20
     returns)

@@ -15,17 +15,17 @@ abbrev μ-loop : tie.MeasureT-loop
 loop-holds : tie.Need-loop-holds Inv-loop μ-loop
 loop-holds c = search needs
 
-mul-send : tie.Need-mul-send Inv-loop μ-loop
-mul-send c = search needs
+mul-to-port : tie.Need-mul-to-port Inv-loop μ-loop
+mul-to-port c = search needs
 
-shared-slice-read-send : tie.Need-shared-slice-read-send Inv-loop μ-loop
-shared-slice-read-send c = search needs
+shared-slice-read-to-port : tie.Need-shared-slice-read-to-port Inv-loop μ-loop
+shared-slice-read-to-port c = search needs
 
-send-requires : tie.Need-send-requires Inv-loop μ-loop
-send-requires c κs = search needs
+to-port-requires : tie.Need-to-port-requires Inv-loop μ-loop
+to-port-requires c κs = search needs
 
-until-idle-requires : tie.Need-until-idle-requires Inv-loop μ-loop
-until-idle-requires c κs = search needs
+finish-requires : tie.Need-finish-requires Inv-loop μ-loop
+finish-requires c κs = search needs
 
 wrapping-add-u64-requires : tie.Need-wrapping-add-u64-requires Inv-loop μ-loop
 wrapping-add-u64-requires c κs = search needs
@@ -52,10 +52,10 @@ send-all-spec =
     Inv-loop
     μ-loop
     loop-holds
-    mul-send
-    shared-slice-read-send
-    send-requires
-    until-idle-requires
+    mul-to-port
+    shared-slice-read-to-port
+    to-port-requires
+    finish-requires
     wrapping-add-u64-requires
     add-i
     loop-less
