@@ -1,5 +1,6 @@
 -- Demand 3 from the translator's own answer. Where that is 0 its contract says that the output starts with PITCH and the entries of
 -- the sheet's figures, and that P and H are in range; every figure lies in the plane; PITCH makes the pitch P; then SheetLaws.
+-- And from 01's words: for a lawful sheet the translator's answer is 0.
 use mathlib.Core.Path.{_≡_, refl, sym, ap, subst, _∙_}
 use mathlib.Core.Bool.{true}
 use mathlib.Core.List.{List}
@@ -13,9 +14,10 @@ use Rattle.records.specs.declared.Record.{Record}
 use Rattle.entries.specs.Entries.{placed}
 use Rattle.entries.proofs.PutLaws.{placed-is}
 use Rattle.sheets.specs.Slots.{translation}
-use Rattle.sheets.specs.Sheet.{figuresOf}
+use Rattle.sheets.specs.Sheet.{Outcome, figuresOf, translateDef}
 use Rattle.sheets.proofs.SlotLaws.{translation-length}
 use Rattle.sheets.proofs.SheetLaws.{translated-means}
+use Rattle.sheets.proofs.AcceptLaws.{accepts}
 use Rattle.registers.specs.declared.Registers.{Registers}
 use Rattle.registers.specs.State.{State, state}
 use Rattle.units.specs.Run.{lengthB}
@@ -24,7 +26,7 @@ use Rattle.sending.proofs.WaitLaws.{Waiting, waiting, waiting-ready}
 use Rattle.sending.proofs.KeptLaws.{sent-all-kept}
 use Rattle.sending.proofs.SendLaws.{leads-then}
 use Rattle.sending.proofs.GroupLaws.{acts-pitch}
-use Rattle.demand.specs.Shown.{Shown, Bytes, PictureIsRight}
+use Rattle.demand.specs.Shown.{Shown, Bytes, PictureIsRight, LawfulSheetIsShown}
 use Rattle.demand.proofs.InsideLaws.{AllInside, sheet-inside}
 use Rattle.demand.proofs.SheetLaws.{sheet-law}
 
@@ -62,3 +64,9 @@ picture-is-right sheet p h table out written a e z bytes r mem ready typed lawfu
     subst (λ (l : List ℕ). Shown p h table figures l (state r mem)) (sym is)
     (shown p h (record { wide = k .frame .wide; tall = k .frame .tall; area = k .frame .area }) table bytes figures
     (sheet-inside p h (length table) sheet (length sheet / 512)) r (waiting r ready typed) mem lawful room)
+
+pub lawful-sheet-is-shown : LawfulSheetIsShown
+lawful-sheet-is-shown sheet p h table out lawful long bytes r mem ready typed right room =
+    let t = translateDef sheet p h table out in
+    let z : t .answer .number ≡ 0 = ap (λ (o : Outcome). o .answer .number) (accepts sheet p h table lawful out long) in
+    (z, picture-is-right sheet p h table out (t .out) (t .answer) refl z bytes r mem ready typed right room)

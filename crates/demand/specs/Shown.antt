@@ -1,4 +1,5 @@
--- Demand 3: the picture is what the figures say. `picture-is-right` of proofs/Whole.antt proves the last definition of this file.
+-- Demand 3: the picture is what the figures say. `picture-is-right` and `lawful-sheet-is-shown` of
+-- proofs/Whole.antt prove the last two definitions of this file.
 use mathlib.Core.Path.{_≡_}
 use mathlib.Core.Bool.{true}
 use mathlib.Core.List.{List}
@@ -11,6 +12,8 @@ use Rattle.registers.specs.Typed.{Typed, Words}
 use Rattle.units.specs.Run.{lengthB}
 use Rattle.records.specs.declared.Record.{Record}
 use Rattle.blocks.specs.declared.Answer.{Answer}
+use Rattle.sheets.specs.Lawful.{Lawful}
+use Rattle.sheets.specs.Slots.{translation}
 use Rattle.sheets.specs.Sheet.{figuresOf, outcome, translateDef}
 use Rattle.geometry.specs.Plane.{InPlane}
 use Rattle.sending.specs.Send.{Ready, sentAll, AllAccepted, unitsOf}
@@ -45,3 +48,14 @@ PictureIsRight =
     → outcome a written ≡ translateDef sheet p h table out → a .number ≡ 0 → Bytes table
     → (r : Registers) (mem : List ℕ) → Ready r → Typed r → lengthB (length mem) ≡ true → p * h ≤ length mem
     → Shown p h table (figuresOf sheet p h table) (take (a .first) written) (state r mem)
+
+-- The same from 01's words on: take a sheet that 01 accepts for P, H and the glyph bytes (`Lawful`), an output long enough for its
+-- translation, and such a register set and memory. Then the translator answers 0, and the entries that it wrote draw the sheet's figures.
+abbrev pub LawfulSheetIsShown : Type 0
+LawfulSheetIsShown =
+    (sheet : List ℕ) (p h : ℕ) (table out : List ℕ) → Lawful sheet p h table
+    → length (translation table p (figuresOf sheet p h table)) ≤ length out → Bytes table
+    → (r : Registers) (mem : List ℕ) → Ready r → Typed r → lengthB (length mem) ≡ true → p * h ≤ length mem
+    → (translateDef sheet p h table out .answer .number ≡ 0)
+    × Shown p h table (figuresOf sheet p h table)
+    (take (translateDef sheet p h table out .answer .first) (translateDef sheet p h table out .out)) (state r mem)
