@@ -13,6 +13,32 @@ use Rattle.records.specs.declared.Figure.{Figure}
 use Rattle.records.specs.declared.Figure.the-variants.{Dot, Line, Rectangle, Glyph}
 use Rattle.entries.specs.declared.Slope.{Slope}
 
+-- "commands are the byte + 256": "WDAT 20 + 8·type + operation" of a word, the operation to be added; "ZOOM 46", "PITCH 47",
+-- "CURS 49", "FIGS 4C", "GCHRD 68", "FIGD 6C"; "PRAM 70 + address", the address being 8
+abbrev pub wdatCode : ℕ
+wdatCode = 0x120
+
+abbrev pub zoomCode : ℕ
+zoomCode = 0x146
+
+abbrev pub pitchCode : ℕ
+pitchCode = 0x147
+
+abbrev pub cursCode : ℕ
+cursCode = 0x149
+
+abbrev pub figsCode : ℕ
+figsCode = 0x14C
+
+abbrev pub gchrdCode : ℕ
+gchrdCode = 0x168
+
+abbrev pub figdCode : ℕ
+figdCode = 0x16C
+
+abbrev pub pramCode : ℕ
+pramCode = 0x178
+
 -- ---- what every figure starts with
 
 -- "dot (x, y) is bit x mod 16 of word y·P + x div 16"
@@ -21,11 +47,11 @@ eadOf p a = a .y * p + a .x / 16
 
 -- "CURS (3 bytes)": EAD's low byte, its middle byte, and "bits 7-4 dot address n", "bits 1-0 EAD's top"
 abbrev pub cursorEntries : ℕ → ℕ → List ℕ
-cursorEntries e x = 0x149 ∷ (e % 256) ∷ (e / 256 % 256) ∷ (x % 16 * 16 + e / 65536 % 4) ∷ []
+cursorEntries e x = cursCode ∷ (e % 256) ∷ (e / 256 % 256) ∷ (x % 16 * 16 + e / 65536 % 4) ∷ []
 
 -- "for dots, lines, rectangles CURS (3 bytes), PRAM 8 with FF FF"
 abbrev pub headEntries : ℕ → Point → List ℕ
-headEntries p a = cursorEntries (eadOf p a) (a .x) ++ 0x178 ∷ 0xFF ∷ 0xFF ∷ []
+headEntries p a = cursorEntries (eadOf p a) (a .x) ++ pramCode ∷ 0xFF ∷ 0xFF ∷ []
 
 -- "both bytes of each number", low byte first
 abbrev pub both : ℕ → List ℕ
@@ -39,7 +65,7 @@ minus14 x n = (x + 16384 - n % 16384) % 16384
 
 -- "FIGS: dot 02", FIGD
 unfoldable pub dotEntries : ℕ → Point → List ℕ
-dotEntries p a = headEntries p a ++ 0x14C ∷ 0x02 ∷ 0x16C ∷ []
+dotEntries p a = headEntries p a ++ figsCode ∷ 0x02 ∷ figdCode ∷ []
 
 -- ---- lines
 
@@ -99,9 +125,9 @@ slopeOf a b =
 -- "line L with the smallest fitting DIR, DC N, D 2m - N, D2 2m - 2N, D1 2m", FIGD; "3 L, 2-0 DIR"
 abbrev pub slopeEntries : Slope → List ℕ
 slopeEntries s =
-    0x14C ∷ (8 + s .dir)
+    figsCode ∷ (8 + s .dir)
     ∷ both (s .major) ++ both (minus14 (2 * s .minor) (s .major)) ++ both (minus14 (2 * s .minor) (2 * s .major)) ++ both (2 * s .minor)
-    ++ 0x16C ∷ []
+    ++ figdCode ∷ []
 
 unfoldable pub lineEntries : ℕ → Point → Point → List ℕ
 lineEntries p a b = headEntries p a ++ slopeEntries (slopeOf a b)
@@ -111,7 +137,7 @@ lineEntries p a b = headEntries p a ++ slopeEntries (slopeOf a b)
 -- "rectangle from its top left, DIR 0, DC 3, D height - 1, D2 width - 1, D1 -1, DM = D", FIGD; "6 R"; -1 is FF 3F in 14 bits; w and h are
 -- the corners' distances
 unfoldable pub rectangleEntries : ℕ → Point → ℕ → ℕ → List ℕ
-rectangleEntries p a w h = headEntries p a ++ 0x14C ∷ 0x40 ∷ both 3 ++ both h ++ both w ++ 0xFF ∷ 0x3F ∷ both h ++ 0x16C ∷ []
+rectangleEntries p a w h = headEntries p a ++ figsCode ∷ 0x40 ∷ both 3 ++ both h ++ both w ++ 0xFF ∷ 0x3F ∷ both h ++ figdCode ∷ []
 
 abbrev pub least : Point → Point → Point
 least a b = record { x = min (a .x) (b .x); y = min (a .y) (b .y) }
@@ -146,7 +172,7 @@ glyphRows t n =
 -- "for glyphs ZOOM g - 1, CURS, PRAM 8 with eight rows, FIGS, GCHRD"; "glyph from its bottom left, DIR 2, DC 7"; "4 GC"
 unfoldable pub glyphEntries : List ℕ → ℕ → Point → ℕ → ℕ → List ℕ
 glyphEntries t p a n g =
-    0x146 ∷ (g - 1) ∷ cursorEntries (eadOf p (foot a g)) (a .x) ++ 0x178 ∷ glyphRows t n ++ 0x14C ∷ 0x12 ∷ both 7 ++ 0x168 ∷ []
+    zoomCode ∷ (g - 1) ∷ cursorEntries (eadOf p (foot a g)) (a .x) ++ pramCode ∷ glyphRows t n ++ figsCode ∷ 0x12 ∷ both 7 ++ gchrdCode ∷ []
 
 -- ---- a figure, a record
 
@@ -158,7 +184,7 @@ figureEntries t p (Glyph a n g) = glyphEntries t p a n g
 
 -- "per figure WDAT word with the operation, then" the figure's own; "WDAT 20 + 8·type + operation"
 unfoldable pub entriesOf : List ℕ → ℕ → Record → List ℕ
-entriesOf t p r = (0x120 + operationNumber (r .op)) ∷ figureEntries t p (plain (r .figure))
+entriesOf t p r = (wdatCode + operationNumber (r .op)) ∷ figureEntries t p (plain (r .figure))
 
 -- how many they are (`entries-size` of PutLaws)
 abbrev pub figureSize : Figure → ℕ

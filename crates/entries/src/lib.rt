@@ -7,8 +7,23 @@ ghost use mathlib.Core.Path.{_≡_};
 ghost use Prim.Native.Nat.{_+_, _*_, _/_, _%_, _-_, _<_, min, max};
 ghost use lib.ListN.{getD, set};
 ghost use Rattle.dots.specs.Operation.{operationNumber};
-ghost use Rattle.entries.specs.Entries.{minus14, distance, dirOf, slopeOf, dotEntries, lineEntries, rectangleEntries};
+ghost use Rattle.entries.specs.Entries.{wdatCode, minus14, distance, dirOf, slopeOf, dotEntries, lineEntries, rectangleEntries};
 ghost use Rattle.entries.specs.Entries.{glyphEntries, least, greatest, plain, sizeOf, figureEntries, entriesOf, placed};
+
+// The commands of a translation, each its byte + 256: WDAT of a word with the operation to be added, PRAM at address 8.
+const WDAT: u16 = 0x120;
+
+const ZOOM: u16 = 0x146;
+
+const CURS: u16 = 0x149;
+
+const FIGS: u16 = 0x14C;
+
+const GCHRD: u16 = 0x168;
+
+const FIGD: u16 = 0x16C;
+
+const PRAM_8: u16 = 0x178;
 
 // A line's direction, its larger distance and its smaller one.
 pub struct Slope {
@@ -19,9 +34,9 @@ pub struct Slope {
 
 // WDAT word with the operation.
 fn wdat(op: Operation) -> u16
-    ensures { λ r. ⌜ r ≡ 0x120 + operationNumber op ⌝ }
+    ensures { λ r. ⌜ r ≡ wdatCode + operationNumber op ⌝ }
 {
-    0x120 + dots::operation_number(op) as u16
+    WDAT + dots::operation_number(op) as u16
 }
 
 // The word of the dot (x, y).
@@ -117,16 +132,16 @@ fn dot_entries(p: u8, a: Point) -> [u16; 10]
 {
     let e = word_of(p, a.x, a.y as u32);
     [
-        0x149,
+        CURS,
         (e % 256) as u16,
         (e / 256 % 256) as u16,
         third(e, a.x),
-        0x178,
+        PRAM_8,
         0xFF,
         0xFF,
-        0x14C,
+        FIGS,
         0x02,
-        0x16C,
+        FIGD,
     ]
 }
 
@@ -140,14 +155,14 @@ fn line_entries(p: u8, a: Point, b: Point) -> [u16; 18]
     let d = minus(2 * m, n);
     let d2 = minus(2 * m, 2 * n);
     [
-        0x149,
+        CURS,
         (e % 256) as u16,
         (e / 256 % 256) as u16,
         third(e, a.x),
-        0x178,
+        PRAM_8,
         0xFF,
         0xFF,
-        0x14C,
+        FIGS,
         8 + s.dir as u16,
         (n % 256) as u16,
         (n / 256 % 256) as u16,
@@ -157,7 +172,7 @@ fn line_entries(p: u8, a: Point, b: Point) -> [u16; 18]
         (d2 / 256 % 256) as u16,
         (2 * m % 256) as u16,
         (2 * m / 256 % 256) as u16,
-        0x16C,
+        FIGD,
     ]
 }
 
@@ -166,14 +181,14 @@ fn rectangle_entries(p: u8, a: Point, w: u16, h: u16) -> [u16; 20]
 {
     let e = word_of(p, a.x, a.y as u32);
     [
-        0x149,
+        CURS,
         (e % 256) as u16,
         (e / 256 % 256) as u16,
         third(e, a.x),
-        0x178,
+        PRAM_8,
         0xFF,
         0xFF,
-        0x14C,
+        FIGS,
         0x40,
         3,
         0,
@@ -185,7 +200,7 @@ fn rectangle_entries(p: u8, a: Point, w: u16, h: u16) -> [u16; 20]
         0x3F,
         h % 256,
         h / 256 % 256,
-        0x16C,
+        FIGD,
     ]
 }
 
@@ -215,13 +230,13 @@ fn glyph_entries(t: &[u8], p: u8, a: Point, n: u8, g: u8) -> [u16; 20]
     let e = word_of(p, a.x, a.y as u32 + less(8 * g as u32));
     let k = 8 * n as usize;
     [
-        0x146,
+        ZOOM,
         less(g as u32) as u16,
-        0x149,
+        CURS,
         (e % 256) as u16,
         (e / 256 % 256) as u16,
         third(e, a.x),
-        0x178,
+        PRAM_8,
         row(t, k),
         row(t, k + 1),
         row(t, k + 2),
@@ -230,11 +245,11 @@ fn glyph_entries(t: &[u8], p: u8, a: Point, n: u8, g: u8) -> [u16; 20]
         row(t, k + 5),
         row(t, k + 6),
         row(t, k + 7),
-        0x14C,
+        FIGS,
         0x12,
         7,
         0,
-        0x168,
+        GCHRD,
     ]
 }
 

@@ -15,7 +15,7 @@ use Rattle.records.specs.Refused.{numberOf}
 use Rattle.blocks.specs.declared.Answer.{Answer}
 use Rattle.blocks.specs.Answer.{answer, firstFrom}
 use Rattle.blocks.specs.Block.{countOf}
-use Rattle.entries.specs.Entries.{sizeOf, entriesOf}
+use Rattle.entries.specs.Entries.{pitchCode, sizeOf, entriesOf}
 
 abbrev pub placeOf : ℕ → ℕ
 placeOf k = recordPlace (k / 50) (k % 50)
@@ -62,7 +62,7 @@ translated t p (r ∷ l) = entriesOf t p r ++ translated t p l
 
 -- "Translation: PITCH P; per figure .."
 unfoldable pub translation : List ℕ → ℕ → List Record → List ℕ
-translation t p l = 0x147 ∷ p ∷ translated t p l
+translation t p l = pitchCode ∷ p ∷ translated t p l
 
 -- how many entries figures take (`translated-length` of SlotLaws)
 unfoldable pub sized : List Record → ℕ
