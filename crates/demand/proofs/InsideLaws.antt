@@ -9,7 +9,7 @@ use native.Mathlib.Omega.{arith}
 use lib.Dec.{eqb, ltb, leb}
 use borrow.Author.Tests.{ltb-true, leb-true, eqb-false}
 use Rattle.dots.specs.Operation.{operationOf}
-use Rattle.geometry.specs.Plane.{InPlane, dotOn, lineOn, borderOn, squareOn}
+use Rattle.geometry.specs.Plane.{InPlane}
 use Rattle.geometry.proofs.TestLaws.{cases, and-both}
 use Rattle.geometry.proofs.OutsideLaws.{Judges, dot-judged, line-judged, border-judged, square-judged}
 use Rattle.records.specs.declared.Raw.{Raw}
@@ -27,6 +27,7 @@ use Rattle.records.specs.Inside.{pointB, insideB, judged}
 use Rattle.records.proofs.FormLaws.{Formed, form-means, factor-means, else-glyph}
 use Rattle.sheets.specs.Slots.{placeOf, usedB, slotDecoded, figuresIn, slotFigures, figuresFrom, figures}
 use Rattle.sheets.specs.Sheet.{roomOf}
+use Rattle.demand.specs.Picture.{figureOn}
 
 -- a glyph's factor is 1 to 16, and its square lies in the plane
 pub record Square (p h : ℕ) (a : Point) (g : ℕ) : Type 0 where
@@ -128,13 +129,7 @@ module _ (p h k : ℕ) where
 
 -- ---- 19 is "a dot outside"
 -- the test of 19 judges the figure's own shape, dot by dot
-abbrev pub FigureJudged : ℕ → ℕ → ℕ → Figure → Type 0
-FigureJudged p h k (Dot a) = Judges p h (insideB (roomOf p h k) (Dot a)) (dotOn (a .x) (a .y))
-FigureJudged p h k (Line a b) = Judges p h (insideB (roomOf p h k) (Line a b)) (lineOn (a .x) (a .y) (b .x) (b .y))
-FigureJudged p h k (Rectangle a b) = Judges p h (insideB (roomOf p h k) (Rectangle a b)) (borderOn (a .x) (a .y) (b .x) (b .y))
-FigureJudged p h k (Glyph a n g) = Judges p h (insideB (roomOf p h k) (Glyph a n g)) (squareOn (a .x) (a .y) g)
-
-pub figure-judged : (p h k : ℕ) (f : Figure) → Factored f → FigureJudged p h k f
+pub figure-judged : (p h k : ℕ) (f : Figure) → Factored f → Judges p h (insideB (roomOf p h k) f) (figureOn f)
 figure-judged p h k (Dot a) w = dot-judged p h (a .x) (a .y)
 figure-judged p h k (Line a b) w = line-judged p h (a .x) (a .y) (b .x) (b .y)
 figure-judged p h k (Rectangle a b) w = border-judged p h (a .x) (a .y) (b .x) (b .y)
