@@ -7,10 +7,10 @@ use Rattle.registers.specs.declared.Registers.{Registers}
 use Rattle.registers.specs.State.{state}
 use Rattle.units.specs.declared.Ran.{Ran}
 use Rattle.units.specs.Run.{Outcome, outcome, runDone}
-use Rattle.mirror.specs.declared.PlainRegisters.{PlainRegisters}
+use Rattle.plain.specs.declared.PlainRegisters.{PlainRegisters}
 use Rattle.mirror.specs.declared.PlainRan.{PlainRan}
-use Rattle.mirror.specs.Form.{plainFormB}
-use Rattle.mirror.specs.Mirror.{fromPlain}
+use Rattle.plain.specs.Form.{plainFormB}
+use Rattle.plain.specs.Mirror.{fromPlain}
 use Rattle.mirror.specs.Asked.{plained, ranPlain, ranOn}
 
 module _ (f : ℕ) (p : PlainRegisters) (m : List ℕ) where

@@ -10,14 +10,14 @@ use Rattle.registers.specs.State.{state}
 use Rattle.units.specs.Run.{runDone}
 use Rattle.ports.specs.declared.Answer.{Answer}
 use Rattle.sheets.specs.Sheet.{Outcome as Sheet}
-use Rattle.mirror.specs.declared.PlainRegisters.{PlainRegisters}
+use Rattle.plain.specs.declared.PlainRegisters.{PlainRegisters}
 use Rattle.mirror.specs.declared.PlainRan.{PlainRan}
 use Rattle.mirror.specs.declared.PlainReport.{PlainReport}
 use Rattle.mirror.specs.declared.PlainTranslation.{PlainTranslation}
-use Rattle.mirror.specs.Form.{plainFormB}
-use Rattle.mirror.specs.Mirror.{fromPlain, toPlain}
+use Rattle.plain.specs.Form.{plainFormB}
+use Rattle.plain.specs.Mirror.{fromPlain, toPlain}
 use Rattle.mirror.specs.Asked.{answerPlain, asked, Plained, plained, ranPlain, ranOn, report, told}
-use Rattle.mirror.proofs.MirrorLaws.{from-to, formed-to}
+use Rattle.plain.proofs.MirrorLaws.{from-to, formed-to}
 
 -- a port
 pub asked-is : (f : Registers → Answer) (r : Registers) → asked (toPlain r) (f (fromPlain (toPlain r))) ≡ answerPlain (f r)

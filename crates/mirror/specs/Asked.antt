@@ -8,13 +8,13 @@ use Rattle.units.specs.Run.{Outcome as Run}
 use Rattle.ports.specs.declared.Answer.{Answer}
 use Rattle.blocks.specs.Answer.{answer}
 use Rattle.sheets.specs.Sheet.{Outcome as Sheet, outcome as sheet}
-use Rattle.mirror.specs.declared.PlainRegisters.{PlainRegisters}
+use Rattle.plain.specs.declared.PlainRegisters.{PlainRegisters}
 use Rattle.mirror.specs.declared.PlainAnswer.{PlainAnswer}
 use Rattle.mirror.specs.declared.PlainRan.{PlainRan}
 use Rattle.mirror.specs.declared.PlainReport.{PlainReport}
 use Rattle.mirror.specs.declared.PlainTranslation.{PlainTranslation}
-use Rattle.mirror.specs.Form.{plainFormB}
-use Rattle.mirror.specs.Mirror.{toPlain}
+use Rattle.plain.specs.Form.{plainFormB}
+use Rattle.plain.specs.Mirror.{toPlain}
 
 abbrev pub answerPlain : Answer → PlainAnswer
 answerPlain a = record { number = a .number; value = a .value; regs = toPlain (a .regs) }

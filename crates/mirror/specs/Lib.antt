@@ -1,5 +1,1 @@
-pub mod Numbers
-pub mod Parts
-pub mod Form
-pub mod Mirror
 pub mod Asked

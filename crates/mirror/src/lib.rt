@@ -1,5 +1,6 @@
-// The controller and the translator for C and Rust on x86-64: the register set in plain numbers, and a function for every entry.
-// A set that is no register set (a bit that is 2, an enum's number out of range, an unused field that is not 0) is refused with 1.
+// The controller and the translator for C and Rust on x86-64, over the register set in plain numbers: a function for every entry.
+// A set that is no register set (crate plain, `formed`) is refused with 1.
+use plain::PlainRegisters;
 use units::Ran;
 ghost use mathlib.Core.Path.{_≡_};
 ghost use Rattle.registers.specs.Fresh.{freshSet};
@@ -7,90 +8,8 @@ ghost use Rattle.registers.specs.State.{state};
 ghost use Rattle.units.specs.Run.{runDone};
 ghost use Rattle.ports.specs.Port.{commandWritten, parameterWritten, byteRead, statusRead, penPosted};
 ghost use Rattle.sheets.specs.Sheet.{translateDef};
-ghost use Rattle.mirror.specs.Mirror.{fromPlain, toPlain};
+ghost use Rattle.plain.specs.Mirror.{fromPlain, toPlain};
 ghost use Rattle.mirror.specs.Asked.{asked, answerPlain, refusedPlain, plained, ranOn, ranPlain, reportOf, report, told};
-
-pub mod convert;
-pub mod form;
-pub mod numbers;
-pub mod parts;
-
-#[repr(C)]
-pub struct PlainCursor {
-    pub ead: u32,
-    pub mask: u16,
-}
-
-#[repr(C)]
-pub struct PlainDrawing {
-    pub kind: u8,
-    pub dir: u8,
-    pub gd: u8,
-    pub dc: u16,
-    pub d: u16,
-    pub d2: u16,
-    pub d1: u16,
-    pub dm: u16,
-}
-
-#[repr(C)]
-pub struct PlainVideo {
-    pub zoom: u8,
-    pub display: u8,
-    pub vsync: u8,
-    pub sync: [u8; 8],
-    pub cchar: [u8; 3],
-}
-
-#[repr(C)]
-pub struct PlainPen {
-    pub address: u32,
-    pub set: u8,
-}
-
-#[repr(C)]
-pub struct PlainBuffer {
-    pub entries: [u16; 16],
-    pub count: u8,
-}
-
-// A transfer stands beside WDAT (15) and RDAT (16) alone.
-#[repr(C)]
-pub struct PlainProgress {
-    pub command: u8,
-    pub transfer: u8,
-    pub next: u8,
-    pub low: u8,
-}
-
-// What is in progress: 0 nothing; 1 a figure (dot, d); 2 a character (row, column, start); 3 a read (item, transfer).
-#[repr(C)]
-pub struct PlainWork {
-    pub kind: u8,
-    pub transfer: u8,
-    pub d: u16,
-    pub item: u16,
-    pub dot: u32,
-    pub row: u32,
-    pub column: u32,
-    pub start: PlainCursor,
-}
-
-// The register set in plain numbers.
-#[repr(C)]
-pub struct PlainRegisters {
-    pub cursor: PlainCursor,
-    pub pitch: u8,
-    pub drawing: PlainDrawing,
-    pub op: u8,
-    pub ram: [u8; 16],
-    pub video: PlainVideo,
-    pub pen: PlainPen,
-    pub mode: u8,
-    pub buffer: PlainBuffer,
-    pub progress: PlainProgress,
-    pub work: PlainWork,
-}
 
 // What a port answers.
 #[repr(C)]
@@ -129,7 +48,7 @@ pub struct PlainTranslation {
 fn answer_plain(a: ports::Answer) -> PlainAnswer
     ensures { λ q. ⌜ q ≡ answerPlain a ⌝ }
 {
-    let regs = convert::to_plain(a.regs);
+    let regs = plain::convert::to_plain(a.regs);
     PlainAnswer {
         number: a.number,
         value: a.value,
@@ -140,7 +59,7 @@ fn answer_plain(a: ports::Answer) -> PlainAnswer
 fn ran_plain(d: Ran) -> PlainRan
     ensures { λ q. ⌜ q ≡ ranPlain d ⌝ }
 {
-    let regs = convert::to_plain(d.regs);
+    let regs = plain::convert::to_plain(d.regs);
     PlainRan {
         number: d.number,
         count: d.count,
@@ -165,7 +84,7 @@ fn refuse(p: PlainRegisters) -> PlainAnswer
 pub extern "C" fn kranichseil_fresh() -> PlainRegisters
     ensures { λ q. ⌜ q ≡ toPlain freshSet ⌝ }
 {
-    convert::to_plain(registers::fresh())
+    plain::convert::to_plain(registers::fresh())
 }
 
 // A byte to the command port.
@@ -173,10 +92,10 @@ pub extern "C" fn kranichseil_fresh() -> PlainRegisters
 pub extern "C" fn kranichseil_command(r: PlainRegisters, byte: u8) -> PlainAnswer
     ensures { λ q. ⌜ q ≡ asked r (commandWritten (fromPlain r) byte) ⌝ }
 {
-    if !form::formed(r) {
+    if !plain::form::formed(r) {
         return refuse(r);
     }
-    answer_plain(ports::write_command(convert::from_plain(r), byte))
+    answer_plain(ports::write_command(plain::convert::from_plain(r), byte))
 }
 
 // A byte to the parameter port.
@@ -184,10 +103,10 @@ pub extern "C" fn kranichseil_command(r: PlainRegisters, byte: u8) -> PlainAnswe
 pub extern "C" fn kranichseil_parameter(r: PlainRegisters, byte: u8) -> PlainAnswer
     ensures { λ q. ⌜ q ≡ asked r (parameterWritten (fromPlain r) byte) ⌝ }
 {
-    if !form::formed(r) {
+    if !plain::form::formed(r) {
         return refuse(r);
     }
-    answer_plain(ports::write_parameter(convert::from_plain(r), byte))
+    answer_plain(ports::write_parameter(plain::convert::from_plain(r), byte))
 }
 
 // A byte is read.
@@ -195,10 +114,10 @@ pub extern "C" fn kranichseil_parameter(r: PlainRegisters, byte: u8) -> PlainAns
 pub extern "C" fn kranichseil_read(r: PlainRegisters) -> PlainAnswer
     ensures { λ q. ⌜ q ≡ asked r (byteRead (fromPlain r)) ⌝ }
 {
-    if !form::formed(r) {
+    if !plain::form::formed(r) {
         return refuse(r);
     }
-    answer_plain(ports::read_byte(convert::from_plain(r)))
+    answer_plain(ports::read_byte(plain::convert::from_plain(r)))
 }
 
 // The status is read.
@@ -206,10 +125,10 @@ pub extern "C" fn kranichseil_read(r: PlainRegisters) -> PlainAnswer
 pub extern "C" fn kranichseil_status(r: PlainRegisters) -> PlainAnswer
     ensures { λ q. ⌜ q ≡ asked r (statusRead (fromPlain r)) ⌝ }
 {
-    if !form::formed(r) {
+    if !plain::form::formed(r) {
         return refuse(r);
     }
-    answer_plain(ports::read_status(convert::from_plain(r)))
+    answer_plain(ports::read_status(plain::convert::from_plain(r)))
 }
 
 // A light-pen address is posted.
@@ -217,10 +136,10 @@ pub extern "C" fn kranichseil_status(r: PlainRegisters) -> PlainAnswer
 pub extern "C" fn kranichseil_pen(r: PlainRegisters, address: u32) -> PlainAnswer
     ensures { λ q. ⌜ q ≡ asked r (penPosted (fromPlain r) address) ⌝ }
 {
-    if !form::formed(r) {
+    if !plain::form::formed(r) {
         return refuse(r);
     }
-    answer_plain(ports::post_pen(convert::from_plain(r), address))
+    answer_plain(ports::post_pen(plain::convert::from_plain(r), address))
 }
 
 // The run, by value.
@@ -228,7 +147,7 @@ pub extern "C" fn kranichseil_pen(r: PlainRegisters, address: u32) -> PlainAnswe
 pub extern "C" fn kranichseil_run(r: PlainRegisters, mem: &mut [u16], budget: u32) -> PlainRan
     ensures { λ q. ⌜ plained q (now (mem .exit)) ≡ ranOn r (now (mem .entry)) (runDone budget (state (fromPlain r) (now (mem .entry)))) ⌝ }
 {
-    if !form::formed(r) {
+    if !plain::form::formed(r) {
         return PlainRan {
             number: 1,
             count: 0,
@@ -236,7 +155,7 @@ pub extern "C" fn kranichseil_run(r: PlainRegisters, mem: &mut [u16], budget: u3
             regs: r,
         };
     }
-    ran_plain(units::run(convert::from_plain(r), mem, budget))
+    ran_plain(units::run(plain::convert::from_plain(r), mem, budget))
 }
 
 // The registers of a run's answer.

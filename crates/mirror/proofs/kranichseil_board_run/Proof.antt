@@ -42,13 +42,13 @@ use denote.Triple.Table.{entered, cited}
 use denote.Triple.Walked.{says, Stays, stay-ref, stay-none, gave-slice, walkOf, AllGo, goes-ref, goes-none, goes-gave-slice, Walks, ends-at}
 use denote.Triple.Walked.{walked, walk-meets}
 use denote.Exit.{yes}
-use Rattle.mirror.specs.declared.PlainRegisters.{PlainRegisters}
-use Rattle.mirror.proofs.PlainRegisters as T
-use Rattle.mirror.proofs.PlainRegisters.Laws as T′
+use Rattle.plain.specs.declared.PlainRegisters.{PlainRegisters}
+use Rattle.plain.proofs.PlainRegisters as T
+use Rattle.plain.proofs.PlainRegisters.Laws as T′
 use Rattle.registers.specs.State.{state}
 use Rattle.mirror.specs.declared.PlainRan.{PlainRan}
 use Rattle.units.specs.Run.{runDone}
-use Rattle.mirror.specs.Mirror.{fromPlain}
+use Rattle.plain.specs.Mirror.{fromPlain}
 use Rattle.mirror.proofs.PlainRan as D
 use Rattle.mirror.proofs.PlainRan.Laws as D′
 use Rattle.mirror.proofs.kranichseil_run as plain-run
