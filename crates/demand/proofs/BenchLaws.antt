@@ -20,7 +20,7 @@ use Rattle.entries.specs.Entries.{dotEntries, entriesOf}
 use Rattle.sheets.specs.Slots.{translated, translation}
 use Rattle.blocks.specs.Answer.{answer}
 use Rattle.sheets.specs.Sheet.{Outcome, outcome, figuresOf}
-use Rattle.sheets.proofs.Bench.{sheet, listing, bench}
+use Rattle.sheets.proofs.WorkedSheet.{sheet, listing, worked-sheet}
 use Rattle.sending.specs.Send.{Ready, sentAll, unitsOf}
 use Rattle.laws.proofs.SoundLaws.{fresh-sound, fresh-typed}
 use Rattle.demand.specs.Picture.{figuresMade, figuresDots}
@@ -50,7 +50,7 @@ lawful = rw long refl
 pub bench-shown : Shown 40 400 [] (figuresOf sheet 40 400 []) (take 13 (listing ++ 7 ∷ 7 ∷ [])) (state freshSet zeros)
 bench-shown =
     picture-is-right sheet 40 400 [] (replicate 15 7) (listing ++ 7 ∷ 7 ∷ []) (answer 0 13 0)
-    (sym (first-of _ _ (outcome (answer 0 0 0) []) bench)) refl (λ j. omega arith) freshSet zeros fresh-ready fresh-typed lawful
+    (sym (first-of _ _ (outcome (answer 0 0 0) []) worked-sheet)) refl (λ j. omega arith) freshSet zeros fresh-ready fresh-typed lawful
     (omega (arith, long))
 
 -- the bench sheet's figure

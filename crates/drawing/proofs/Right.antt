@@ -22,7 +22,7 @@ use Rattle.sheets.specs.Slots.{translated, translation}
 use Rattle.sheets.specs.Sheet.{planeB, figuresOf, translateDef}
 use Rattle.sheets.proofs.SlotLaws.{translation-length}
 use Rattle.sheets.proofs.SheetLaws.{translated-means}
-use Rattle.laws.proofs.KeptLaws.{Lawful, lawful, lawful-typed}
+use Rattle.laws.proofs.KeptLaws.{SoundSet, lawful, lawful-typed}
 use Rattle.sending.specs.Send.{Ready, Reply, Accepted, sent, left, sentAll, AllAccepted, unitsOf}
 use Rattle.sending.proofs.WaitLaws.{Waiting, waiting, waiting-ready}
 use Rattle.sending.proofs.ReadLaws.{turned-waits, pitch-turns}
@@ -36,7 +36,7 @@ use Rattle.drawing.specs.Draw.{Outcome, outcome, allSent, largerB, sheet
 use Rattle.drawing.specs.Right.{Right, SheetIsDrawn, ReadySheetIsDrawn}
 
 -- ---- PITCH from read mode
-module _ (p h : ℕ) (glyphs : List ℕ) (figures : List Record) (r : Registers) (lawful : Lawful r) (read : r .mode ≡ Read)
+module _ (p h : ℕ) (glyphs : List ℕ) (figures : List Record) (r : Registers) (lawful : SoundSet r) (read : r .mode ≡ Read)
     (m l : List ℕ) where
   same : sent (state r m) 0x147 ≡ sent (state (turnedBack r) m) 0x147
   same = pitch-turns r lawful read m
@@ -88,7 +88,7 @@ module _ (sheet : List ℕ) (p h : ℕ) (glyphs : List ℕ) (entries : List ℕ)
       subst (λ (l : List ℕ). Shown p h glyphs figures l (state r m)) first-written
       (picture-is-right sheet p h glyphs entries out a refl accepted bytes r m (waiting-ready v) (lawful-typed r (v .lawful)) long room)
 
-  from-reading : (r : Registers) → Lawful r → r .mode ≡ Read → (m : List ℕ) → lengthB (length m) ≡ true → p * h ≤ length m
+  from-reading : (r : Registers) → SoundSet r → r .mode ≡ Read → (m : List ℕ) → lengthB (length m) ≡ true → p * h ≤ length m
       → Shown p h glyphs figures all (state r m)
   unfolding translation
   from-reading r l read m long room =

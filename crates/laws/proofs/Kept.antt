@@ -1,4 +1,4 @@
--- A sound set stays sound, whatever the entry: soundness and what the types say are together `Lawful`, which each entry keeps.
+-- A sound set stays sound, whatever the entry: soundness and what the types say are together `SoundSet`, which each entry keeps.
 use mathlib.Core.Path.{refl}
 use mathlib.Core.List.{List}
 use Prim.Native.Nat.{ℕ}
@@ -9,18 +9,18 @@ use Rattle.registers.specs.Typed.{Words}
 use Rattle.units.specs.Run.{runDone}
 use Rattle.laws.specs.Kept.{KeepsSound, EveryEntryKeepsSound}
 use Rattle.laws.proofs.SoundLaws.{fresh-sound, fresh-typed}
-use Rattle.laws.proofs.KeptLaws.{Lawful, Whole, lawful, lawful-sound, lawful-typed}
+use Rattle.laws.proofs.KeptLaws.{SoundSet, Whole, lawful, lawful-sound, lawful-typed}
 use Rattle.laws.proofs.KeptUnitLaws.{leftBy, run-kept}
 use Rattle.laws.proofs.KeptPortLaws.{command-written-kept, parameter-written-kept, byte-read-kept, status-read-kept}
 use Rattle.laws.proofs.KeptPortLaws.{pen-posted-kept}
 
-keeps : {after : Registers → Registers} → ((r : Registers) → Lawful r → Lawful (after r)) → KeepsSound after
+keeps : {after : Registers → Registers} → ((r : Registers) → SoundSet r → SoundSet (after r)) → KeepsSound after
 keeps {after} h r t e =
-    let l : Lawful (after r) = h r (lawful r e t) in
+    let l : SoundSet (after r) = h r (lawful r e t) in
     (lawful-sound (after r) l, lawful-typed (after r) l)
 
 -- what a run leaves of a sound set and a memory of 16-bit words
-run-leaves : (budget : ℕ) (r : Registers) (m : List ℕ) → Lawful r → Words m → Whole (length m) (leftBy (runDone budget (state r m)))
+run-leaves : (budget : ℕ) (r : Registers) (m : List ℕ) → SoundSet r → Words m → Whole (length m) (leftBy (runDone budget (state r m)))
 run-leaves budget r m l w = run-kept (length m) budget (state r m) (record { regs = l; words = w; long = refl })
 
 pub every-entry-keeps-sound : EveryEntryKeepsSound

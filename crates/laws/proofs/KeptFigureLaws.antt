@@ -26,12 +26,12 @@ use Rattle.figures.specs.Figure.{patternAt, negative, errorAfter, directionAt, 
 use Rattle.figures.specs.Character.{characterPattern, nextStart, characterMoved, characterUnit}
 use Rattle.figures.specs.Reading.{roomB, given, readOn, itemGiven, readUnit}
 use Rattle.laws.proofs.BranchLaws.{either, cases}
-use Rattle.laws.proofs.KeptLaws.{Queue, Going, Lawful, Whole, cursor-kept, buffer-kept, work-kept, cycle-kept}
+use Rattle.laws.proofs.KeptLaws.{Queue, Going, SoundSet, Whole, cursor-kept, buffer-kept, work-kept, cycle-kept}
 use Rattle.laws.proofs.KeptBufferLaws.{pushed-queue}
 use Rattle.laws.proofs.KeptProcessorLaws.{word-fits}
 
 -- the figure, or the read, ends
-ends : (r : Registers) → Lawful r → Lawful (putWork r Idle)
+ends : (r : Registers) → SoundSet r → SoundSet (putWork r Idle)
 ends r l = work-kept r l Idle (record { place = tt; mode = tt; start = tt })
 
 -- ---- FIGD's figure
@@ -42,13 +42,13 @@ running-below f d h =
     either (λ (x : ℕ). x < 16384) (eqb (f .kind) lineKind)
     (either (λ (x : ℕ). x < 16384) (negative d) (omega arith) (omega arith)) h
 
-module _ (r : Registers) (l : Lawful r) (k d : ℕ) (e : r .work ≡ Figure k d) where
-  figure-moves : Lawful (figureMoved k d r)
+module _ (r : Registers) (l : SoundSet r) (k d : ℕ) (e : r .work ≡ Figure k d) where
+  figure-moves : SoundSet (figureMoved k d r)
   unfolding figureMoved
   figure-moves =
       let g : Going (r .drawing) (r .video .zoom) (r .mode) (Figure k d) = rw e at (l .work) in
       let c = stepOf (directionAt (r .drawing) k d) (r .pitch) (r .cursor) in
-      cases Lawful (ltb (k + 1) (dotsOf (r .drawing)))
+      cases SoundSet (ltb (k + 1) (dotsOf (r .drawing)))
       (λ t. work-kept (putCursor r c) (cursor-kept r l c (fits-step (directionAt (r .drawing) k d) (r .pitch) (r .cursor) (l .cursor)))
       (Figure (k + 1) (runningD (r .drawing) d))
       (record {
@@ -66,15 +66,15 @@ figure-kept n k d s w e =
 
 -- ---- GCHRD's character
 
-module _ (r : Registers) (l : Lawful r) (row column : ℕ) (start : Cursor) (e : r .work ≡ Character row column start) where
-  character-moves : Lawful (characterMoved row column start r)
+module _ (r : Registers) (l : SoundSet r) (row column : ℕ) (start : Cursor) (e : r .work ≡ Character row column start) where
+  character-moves : SoundSet (characterMoved row column start r)
   unfolding characterMoved nextStart
   character-moves =
       let g : Going (r .drawing) (r .video .zoom) (r .mode) (Character row column start) = rw e at (l .work) in
       let along = stepOf (r .drawing .dir) (r .pitch) (r .cursor) in
       let next = stepOf ((r .drawing .dir + 2) % 8) (r .pitch) start in
       let fits : Fits next = fits-step ((r .drawing .dir + 2) % 8) (r .pitch) start (record { ead = g .place .2; mask = g .start }) in
-      cases Lawful (ltb (column + 1) (columnsOf (r .drawing) (r .video .zoom)))
+      cases SoundSet (ltb (column + 1) (columnsOf (r .drawing) (r .video .zoom)))
       (λ t. work-kept (putCursor r along) (cursor-kept r l along (fits-step (r .drawing .dir) (r .pitch) (r .cursor) (l .cursor)))
       (Character row (column + 1) start)
       (record {
@@ -82,7 +82,7 @@ module _ (r : Registers) (l : Lawful r) (row column : ℕ) (start : Cursor) (e :
         mode = g .mode;
         start = g .start;
       }))
-      (λ t. cases Lawful (ltb (row + 1) (rowsOf (r .drawing) (r .video .zoom)))
+      (λ t. cases SoundSet (ltb (row + 1) (rowsOf (r .drawing) (r .video .zoom)))
       (λ u. work-kept (putCursor r next) (cursor-kept r l next fits) (Character (row + 1) 0 next)
       (record {
         place = (ltb-true (row + 1) (rowsOf (r .drawing) (r .video .zoom)) u, omega (arith, g .place .1), fits .ead);
@@ -114,8 +114,8 @@ read-goes-on f zoom m t i e =
     (λ u. record { place = ltb-true (i + 1) (f .dc) u; mode = e; start = tt })
     (λ u. record { place = tt; mode = tt; start = tt })
 
-module _ (r : Registers) (l : Lawful r) (i : ℕ) (t : Transfer) (e : r .work ≡ Reading i t) where
-  item-kept : (w : ℕ) → w < 65536 → Lawful (itemGiven i t w r)
+module _ (r : Registers) (l : SoundSet r) (i : ℕ) (t : Transfer) (e : r .work ≡ Reading i t) where
+  item-kept : (w : ℕ) → w < 65536 → SoundSet (itemGiven i t w r)
   unfolding itemGiven
   item-kept w h =
       let g : Going (r .drawing) (r .video .zoom) (r .mode) (Reading i t) = rw e at (l .work) in

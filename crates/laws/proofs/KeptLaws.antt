@@ -1,4 +1,4 @@
--- What every entry of the controller keeps: a register set that is sound and has what its types say (`Lawful`), over a memory of
+-- What every entry of the controller keeps: a register set that is sound and has what its types say (`SoundSet`), over a memory of
 -- 16-bit words of one length (`Whole`). A change of one register keeps it if the new value has its part.
 use mathlib.Core.Path.{_≡_, _∙_}
 use mathlib.Core.Bool.{true}
@@ -35,7 +35,7 @@ pub record Going (f : Drawing) (zoom : ℕ) (m : Mode) (w : Work) : Type 0 where
   pub mode : Suits m w
   pub start : StartFits w
 
-pub record Lawful (r : Registers) : Type 0 where
+pub record SoundSet (r : Registers) : Type 0 where
   pub cursor : Fits (r .cursor)
   pub drawing : DrawingFits (r .drawing)
   pub ram : length (r .ram) ≡ 16
@@ -45,7 +45,7 @@ pub record Lawful (r : Registers) : Type 0 where
   pub work : Going (r .drawing) (r .video .zoom) (r .mode) (r .work)
 
 pub record Whole (n : ℕ) (s : State) : Type 0 where
-  pub regs : Lawful (s .regs)
+  pub regs : SoundSet (s .regs)
   pub words : Words (s .mem)
   pub long : length (s .mem) ≡ n
 
@@ -55,54 +55,54 @@ idle f zoom m e = record { place = rw e tt; mode = rw e tt; start = rw e tt }
 
 -- ---- from soundness and types, and back: each part is one of theirs, so it is found
 
-lawful-of : (r : Registers) → Sound r → Typed r → Lawful r
+lawful-of : (r : Registers) → Sound r → Typed r → SoundSet r
 lawful-of r s t = search
 
-sound-of : (r : Registers) → Lawful r → Sound r
+sound-of : (r : Registers) → SoundSet r → Sound r
 sound-of r l = search
 
-pub lawful : (r : Registers) → soundB r ≡ true → Typed r → Lawful r
+pub lawful : (r : Registers) → soundB r ≡ true → Typed r → SoundSet r
 lawful r e t = lawful-of r (sound-parts r e) t
 
-pub lawful-sound : (r : Registers) → Lawful r → soundB r ≡ true
+pub lawful-sound : (r : Registers) → SoundSet r → soundB r ≡ true
 lawful-sound r l = sound-whole r (sound-of r l)
 
-pub lawful-typed : (r : Registers) → Lawful r → Typed r
+pub lawful-typed : (r : Registers) → SoundSet r → Typed r
 lawful-typed r l = search
 
 -- ---- one register changed: its part is given, and the others stay as they are, so each is found
 
-module _ (r : Registers) (l : Lawful r) where
-  pub cursor-kept : (c : Cursor) → Fits c → Lawful (putCursor r c)
+module _ (r : Registers) (l : SoundSet r) where
+  pub cursor-kept : (c : Cursor) → Fits c → SoundSet (putCursor r c)
   cursor-kept c h = search
 
-  pub plain-kept : (pitch : ℕ) (op : Operation) → Lawful (putOp (putPitch r pitch) op)
+  pub plain-kept : (pitch : ℕ) (op : Operation) → SoundSet (putOp (putPitch r pitch) op)
   plain-kept pitch op = search
 
-  pub drawing-kept : r .work ≡ Idle → (f : Drawing) → DrawingFits f → Lawful (putDrawing r f)
+  pub drawing-kept : r .work ≡ Idle → (f : Drawing) → DrawingFits f → SoundSet (putDrawing r f)
   drawing-kept e f h = search idle
 
-  pub ram-kept : (a : List ℕ) → length a ≡ 16 → Lawful (putRam r a)
+  pub ram-kept : (a : List ℕ) → length a ≡ 16 → SoundSet (putRam r a)
   ram-kept a h = search
 
-  pub video-kept : r .work ≡ Idle → (v : Video) → Lawful (putVideo r v)
+  pub video-kept : r .work ≡ Idle → (v : Video) → SoundSet (putVideo r v)
   video-kept e v = search idle
 
-  pub pen-kept : (p : Pen) → p .address < addresses → Lawful (putPen r p)
+  pub pen-kept : (p : Pen) → p .address < addresses → SoundSet (putPen r p)
   pen-kept p h = search
 
-  pub progress-kept : (p : Progress) → p .next ≤ 16 → Lawful (putProgress r p)
+  pub progress-kept : (p : Progress) → p .next ≤ 16 → SoundSet (putProgress r p)
   progress-kept p h = search
 
   -- mode, buffer and work go together
   pub turn-kept : (m : Mode) (b : Buffer) (w : Work) → Queue m b → Going (r .drawing) (r .video .zoom) m w
-      → Lawful (putWork (putBuffer (putMode r m) b) w)
+      → SoundSet (putWork (putBuffer (putMode r m) b) w)
   turn-kept m b w q g = search
 
-  pub buffer-kept : (b : Buffer) → Queue (r .mode) b → Lawful (putBuffer r b)
+  pub buffer-kept : (b : Buffer) → Queue (r .mode) b → SoundSet (putBuffer r b)
   buffer-kept b h = search
 
-  pub work-kept : (w : Work) → Going (r .drawing) (r .video .zoom) (r .mode) w → Lawful (putWork r w)
+  pub work-kept : (w : Work) → Going (r .drawing) (r .video .zoom) (r .mode) w → SoundSet (putWork r w)
   work-kept w h = search
 
 -- ---- the memory
@@ -115,7 +115,7 @@ set-below n (y ∷ m) (suc i) x zero h p = h
 set-below n (y ∷ m) (suc i) x (suc j) h p = set-below n m i x j h p
 
 -- a cycle leaves 16-bit words, as many as there were
-pub cycle-kept : (n : ℕ) (op : Operation) (pattern : ℕ) (r q : Registers) (m : List ℕ) → Whole n (state r m) → Lawful q
+pub cycle-kept : (n : ℕ) (op : Operation) (pattern : ℕ) (r q : Registers) (m : List ℕ) → Whole n (state r m) → SoundSet q
     → Whole n (state q (cycled op pattern (r .cursor) m))
 cycle-kept n op pattern r q m h l =
     record {

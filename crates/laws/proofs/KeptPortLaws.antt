@@ -18,25 +18,25 @@ use Rattle.ports.specs.declared.Answer.{Answer}
 use Rattle.ports.specs.Port.{queued, turnedBack, queuedOr3, commandIn, commandWritten, parameterIn, parameterWritten, byteIn, byteRead}
 use Rattle.ports.specs.Port.{statusRead, penPosted}
 use Rattle.laws.proofs.BranchLaws.{either, cases}
-use Rattle.laws.proofs.KeptLaws.{Lawful, idle, buffer-kept, pen-kept, turn-kept}
+use Rattle.laws.proofs.KeptLaws.{SoundSet, idle, buffer-kept, pen-kept, turn-kept}
 use Rattle.laws.proofs.KeptBufferLaws.{empty-queue, pushed-queue, popped-queue}
 use Rattle.laws.proofs.KeptProcessorLaws.{reset-kept}
 
 abbrev pub Answers : Answer → Type 0
-Answers a = Lawful (a .regs)
+Answers a = SoundSet (a .regs)
 
-module _ (r : Registers) (l : Lawful r) where
-  queued-kept : (e : ℕ) → e < markB (r .mode) → Lawful (queued r e)
+module _ (r : Registers) (l : SoundSet r) where
+  queued-kept : (e : ℕ) → e < markB (r .mode) → SoundSet (queued r e)
   queued-kept e h = buffer-kept r l (pushed (r .buffer) e) (pushed-queue (r .mode) (r .buffer) (l .buffer) e h)
 
   queued-or-3 : (e : ℕ) → e < markB (r .mode) → Answers (queuedOr3 r e)
   unfolding queuedOr3
   queued-or-3 e h = either Answers (leb 16 (r .buffer .count)) l (queued-kept e h)
 
-pub turned-back : (r : Registers) → Lawful r → Lawful (turnedBack r)
+pub turned-back : (r : Registers) → SoundSet r → SoundSet (turnedBack r)
 turned-back r l = turn-kept r l Write emptyBuffer Idle (empty-queue Write) (idle (r .drawing) (r .video .zoom) Write refl)
 
-module _ (r : Registers) (l : Lawful r) where
+module _ (r : Registers) (l : SoundSet r) where
   command-in : (m : Mode) → r .mode ≡ m → (b : ℕ) → b < 256 → Answers (commandIn m r b)
   command-in Write e b h = queued-or-3 r l (b + 256) (rw e (omega arith))
   command-in Read e b h = queued-kept (turnedBack r) (turned-back r l) (b + 256) (omega arith)

@@ -37,17 +37,17 @@ use Rattle.processor.specs.Wdat.{halfB, wdatPattern, wdatProgress, setDone, wda
 use Rattle.processor.specs.Entry.{nextOf, counted, parameterBy, parameterTaken, entryTaken}
 use Rattle.laws.proofs.BranchLaws.{either, cases}
 use Rattle.laws.proofs.SoundLaws.{DrawingFits}
-use Rattle.laws.proofs.KeptLaws.{Queue, Lawful, Whole, idle, cursor-kept, plain-kept, drawing-kept, ram-kept, video-kept, pen-kept}
+use Rattle.laws.proofs.KeptLaws.{Queue, SoundSet, Whole, idle, cursor-kept, plain-kept, drawing-kept, ram-kept, video-kept, pen-kept}
 use Rattle.laws.proofs.KeptLaws.{progress-kept, work-kept, turn-kept, cycle-kept}
 use Rattle.laws.proofs.KeptBufferLaws.{bytes-queue, empty-queue}
 
 -- ---- commands
 
-pub reset-kept : (r : Registers) → Lawful r → Lawful (resetDone r)
+pub reset-kept : (r : Registers) → SoundSet r → SoundSet (resetDone r)
 unfolding resetDone
 reset-kept r l =
     let ended = putWork (putBuffer (putMode r Write) emptyBuffer) Idle in
-    let still : Lawful ended = turn-kept r l Write emptyBuffer Idle (empty-queue Write) (idle (r .drawing) (r .video .zoom) Write refl) in
+    let still : SoundSet ended = turn-kept r l Write emptyBuffer Idle (empty-queue Write) (idle (r .drawing) (r .video .zoom) Write refl) in
     let dark = putVideo ended (putDisplay (r .video) false) in
     progress-kept dark (video-kept ended still refl (putDisplay (r .video) false)) (begun Reset 0) (omega arith)
 
@@ -78,34 +78,34 @@ fresh-drawing : (f : Drawing) → DrawingFits f → DrawingFits (freshDrawing f)
 fresh-drawing f s =
     record { kind = s .kind; dir = s .dir; dc = omega arith; d = omega arith; d2 = omega arith; d1 = omega arith; dm = omega arith }
 
-module _ (r : Registers) (l : Lawful r) (e : r .work ≡ Idle) where
-  turned-kept : (b : Buffer) → Queue Read b → Lawful (turned r b)
+module _ (r : Registers) (l : SoundSet r) (e : r .work ≡ Idle) where
+  turned-kept : (b : Buffer) → Queue Read b → SoundSet (turned r b)
   turned-kept b q = turn-kept r l Read b (r .work) q (idle (r .drawing) (r .video .zoom) Read e)
 
-  read-kept : (t : Transfer) → Lawful (readBegun t r)
+  read-kept : (t : Transfer) → SoundSet (readBegun t r)
   unfolding readBegun
   read-kept t =
-      let after : Lawful (turned r emptyBuffer) = turned-kept emptyBuffer (empty-queue Read) in
-      cases Lawful (ltb 0 (r .drawing .dc))
+      let after : SoundSet (turned r emptyBuffer) = turned-kept emptyBuffer (empty-queue Read) in
+      cases SoundSet (ltb 0 (r .drawing .dc))
       (λ p. work-kept (turned r emptyBuffer) after (Reading 0 t)
       (record { place = ltb-true 0 (r .drawing .dc) p; mode = refl; start = tt }))
       (λ p. after)
 
   module _ (write : r .mode ≡ Write) where
-    figure-begins : Lawful (figureBegun r)
+    figure-begins : SoundSet (figureBegun r)
     unfolding figureBegun
     figure-begins =
-        cases Lawful (ltb 0 (dotsOf (r .drawing)))
+        cases SoundSet (ltb 0 (dotsOf (r .drawing)))
         (λ p. work-kept r l (Figure 0 (r .drawing .d))
         (record { place = (ltb-true 0 (dotsOf (r .drawing)) p, l .drawing .d); mode = write; start = tt }))
         (λ p. l)
 
-    character-begins : Lawful (characterBegun r)
+    character-begins : SoundSet (characterBegun r)
     unfolding characterBegun
     character-begins =
         let rows = rowsOf (r .drawing) (r .video .zoom) in
         let columns = columnsOf (r .drawing) (r .video .zoom) in
-        cases Lawful (ltb 0 rows && ltb 0 columns)
+        cases SoundSet (ltb 0 rows && ltb 0 columns)
         (λ p. work-kept r l (Character 0 0 (r .cursor))
         (record {
           place = (
@@ -118,7 +118,7 @@ module _ (r : Registers) (l : Lawful r) (e : r .work ≡ Idle) where
         }))
         (λ p. l)
 
-    command-by : (c : Command) (b : ℕ) → Lawful (commandBy c b r)
+    command-by : (c : Command) (b : ℕ) → SoundSet (commandBy c b r)
     command-by Nothing b = l
     command-by Reset b = reset-kept r l
     command-by Vsync b = video-kept r l e _
@@ -140,7 +140,7 @@ module _ (r : Registers) (l : Lawful r) (e : r .work ≡ Idle) where
     command-by (Rdat t) b = read-kept t
     command-by Unknown b = l
 
-pub command-kept : (b : ℕ) (r : Registers) → Lawful r → r .work ≡ Idle → r .mode ≡ Write → Lawful (commandTaken b r)
+pub command-kept : (b : ℕ) (r : Registers) → SoundSet r → r .work ≡ Idle → r .mode ≡ Write → SoundSet (commandTaken b r)
 unfolding commandTaken
 command-kept b r l e write =
     let first : begun (commandOf b) b .next ≤ 16 = either (λ (n : ℕ). n ≤ 16) (within 0x70 0x7F b) (omega arith) (omega arith) in
@@ -192,10 +192,10 @@ word-fits (suc (suc (suc (suc (suc (suc (suc d))))))) h c s = omega (arith, s .m
 
 module _ (n : ℕ) (r : Registers) (m : List ℕ) (w : Whole n (state r m)) where
   -- the registers changed and the memory left
-  left : {q : Registers} → Lawful q → Whole n (state q m)
+  left : {q : Registers} → SoundSet q → Whole n (state q m)
   left l = record { regs = l; words = w .words; long = w .long }
 
-  set-kept : (t : Transfer) → Lawful (setDone t r)
+  set-kept : (t : Transfer) → SoundSet (setDone t r)
   unfolding setDone
   set-kept t =
       let moved = wordMoveOf (r .drawing .dir) (r .pitch) (r .cursor) in
@@ -221,8 +221,8 @@ module _ (n : ℕ) (r : Registers) (m : List ℕ) (w : Whole n (state r m)) wher
     parameter-by Zoom = left (video-kept r (w .regs) e (zoomBy i v (r .video)))
     parameter-by Curs = left (cursor-kept r (w .regs) (cursBy i v (r .cursor)) (curs-fits i v byte (r .cursor) (w .regs .cursor)))
     parameter-by Pram =
-        left (either Lawful (ltb i 16) (ram-kept r (w .regs) (set (r .ram) i v) (length-set (r .ram) i v ∙ w .regs .ram)) (w .regs))
-    parameter-by Pitch = left (either Lawful (eqb i 0) (plain-kept r (w .regs) v (r .op)) (w .regs))
+        left (either SoundSet (ltb i 16) (ram-kept r (w .regs) (set (r .ram) i v) (length-set (r .ram) i v ∙ w .regs .ram)) (w .regs))
+    parameter-by Pitch = left (either SoundSet (eqb i 0) (plain-kept r (w .regs) v (r .op)) (w .regs))
     parameter-by Mask = left (cursor-kept r (w .regs) (maskBy i v (r .cursor)) (mask-fits i v byte (r .cursor) (w .regs .cursor)))
     parameter-by Figs = left (drawing-kept r (w .regs) e (figsBy i v (r .drawing)) (figs-fits i v byte (r .drawing) (w .regs .drawing)))
     parameter-by Figd = w

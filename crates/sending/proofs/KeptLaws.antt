@@ -8,12 +8,12 @@ use borrow.Author.Tests.{ltb-true}
 use Rattle.registers.specs.declared.Registers.{Registers}
 use Rattle.registers.specs.State.{State, state}
 use Rattle.laws.proofs.BranchLaws.{cases}
-use Rattle.laws.proofs.KeptLaws.{Lawful, Whole}
+use Rattle.laws.proofs.KeptLaws.{SoundSet, Whole}
 use Rattle.laws.proofs.KeptUnitLaws.{run-kept}
 use Rattle.laws.proofs.KeptPortLaws.{Answers, command-written-kept, parameter-written-kept}
 use Rattle.sending.specs.Send.{written, fullBudget, sent, left, sentAll}
 
-written-kept : (r : Registers) → Lawful r → (e : ℕ) → Answers (written r e)
+written-kept : (r : Registers) → SoundSet r → (e : ℕ) → Answers (written r e)
 written-kept r l e =
     cases Answers (ltb e 256) (λ t. parameter-written-kept r l e (ltb-true e 256 t))
     (λ t. command-written-kept r l (e % 256) (omega arith))

@@ -10,12 +10,12 @@ use Rattle.registers.specs.State.{state}
 use Rattle.units.specs.Run.{runDone}
 use Rattle.ports.specs.declared.Answer.{Answer}
 use Rattle.ports.specs.Port.{granted, queued, turnedBack, queuedOr3, commandIn, commandWritten}
-use Rattle.laws.proofs.KeptLaws.{Lawful, lawful-sound}
+use Rattle.laws.proofs.KeptLaws.{SoundSet, lawful-sound}
 use Rattle.laws.proofs.KeptPortLaws.{turned-back}
 use Rattle.sending.specs.Send.{written, fullBudget, Reply, sent}
 use Rattle.sending.proofs.WaitLaws.{Waiting}
 
-module _ (r : Registers) (l : Lawful r) (read : r .mode ≡ Read) where
+module _ (r : Registers) (l : SoundSet r) (read : r .mode ≡ Read) where
   pub turned-waits : Waiting (turnedBack r)
   turned-waits = record { lawful = turned-back r l; mode = refl; idle = refl; empty = refl }
 

@@ -17,14 +17,14 @@ use Rattle.registers.specs.Typed.{Typed}
 use Rattle.processor.specs.Entry.{entryTaken}
 use Rattle.units.specs.Run.{reasonOf, unitsDone}
 use Rattle.ports.specs.Port.{queued}
-use Rattle.laws.proofs.KeptLaws.{Lawful, lawful, lawful-sound, buffer-kept}
+use Rattle.laws.proofs.KeptLaws.{SoundSet, lawful, lawful-sound, buffer-kept}
 use Rattle.laws.proofs.KeptBufferLaws.{empty-queue, pushed-queue}
 use Rattle.laws.proofs.KeptProcessorLaws.{entry-kept}
 use Rattle.laws.proofs.KeptUnitLaws.{units-kept}
 use Rattle.sending.specs.Send.{Ready}
 
 pub record Waiting (r : Registers) : Type 0 where
-  pub lawful : Lawful r
+  pub lawful : SoundSet r
   pub mode : r .mode ≡ Write
   pub idle : r .work ≡ Idle
   pub empty : r .buffer .count ≡ 0
@@ -57,9 +57,9 @@ module _ {r : Registers} (v : Waiting r) (e : ℕ) where
       (pushed-queue (r .mode) (r .buffer) (v .lawful .buffer) e (rw (v .mode) h)))
 
   -- n units after the entry was taken
-  pub units-lawful : (n : ℕ) {s : State} → unitsDone n (takenBy e r []) ≡ s → Lawful (s .regs)
+  pub units-lawful : (n : ℕ) {s : State} → unitsDone n (takenBy e r []) ≡ s → SoundSet (s .regs)
   units-lawful n is =
-      subst (λ (s : State). Lawful (s .regs)) is
+      subst (λ (s : State). SoundSet (s .regs)) is
       (units-kept 0 n (takenBy e r [])
       (entry-kept 0 e (state (drained r) [])
       (record {

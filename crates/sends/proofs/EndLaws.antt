@@ -37,7 +37,7 @@ use Rattle.units.specs.Unit.{fetched, fetchBy, unitBy, unitDone}
 use Rattle.units.specs.Run.{waiting, reasonBy, reasonOf, unitsDone}
 use Rattle.laws.proofs.BranchLaws.{either, cases}
 use Rattle.laws.proofs.SoundLaws.{DrawingFits}
-use Rattle.laws.proofs.KeptLaws.{Going, Lawful, Whole, buffer-kept}
+use Rattle.laws.proofs.KeptLaws.{Going, SoundSet, Whole, buffer-kept}
 use Rattle.laws.proofs.KeptBufferLaws.{popped-queue}
 use Rattle.laws.proofs.KeptProcessorLaws.{entry-kept}
 use Rattle.laws.proofs.KeptUnitLaws.{unit-kept}
@@ -96,7 +96,7 @@ queue-few Write n h = omega arith
 queue-few Read n h = omega arith
 
 -- what lies before a sound set: at most the rest of one figure, and sixteen entries that start one each
-pub to-do-few : (r : Registers) → Lawful r → toDo r ≤ 17 * 68715282433
+pub to-do-few : (r : Registers) → SoundSet r → toDo r ≤ 17 * 68715282433
 to-do-few r l =
     let u = work-few (r .drawing) (r .video .zoom) (l .drawing) (r .work) in
     let v = queue-few (r .mode) (r .buffer .count) (l .buffer .fits .count) in

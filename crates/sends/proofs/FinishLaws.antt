@@ -18,7 +18,7 @@ use Rattle.registers.specs.State.{State, state}
 use Rattle.units.specs.Run.{reasonBy, reasonOf, unitsDone, stopped, lengthB, runDone}
 use Rattle.units.specs.Run.{Outcome as RunOutcome}
 use Rattle.laws.proofs.BranchLaws.{cases}
-use Rattle.laws.proofs.KeptLaws.{Going, Lawful, Whole, lawful-sound}
+use Rattle.laws.proofs.KeptLaws.{Going, SoundSet, Whole, lawful-sound}
 use Rattle.laws.proofs.KeptUnitLaws.{leftBy, run-kept}
 use Rattle.laws.proofs.RunLaws.{Reasoned, run-reason, run-idle, run-counts, run-within}
 use Rattle.sending.specs.Send.{fullBudget}
@@ -75,7 +75,7 @@ module _ (n : ℕ) (right : lengthB n ≡ true) where
   finishes s w = settles 272 s w (omega (arith, to-do-few (s .regs) (w .regs)))
 
 -- the controller waits for entries, or it is in read mode
-module _ {P : Type 0} (r : Registers) (l : Lawful r) (waits : Waiting r → P) (reads : r .mode ≡ Read → P) where
+module _ {P : Type 0} (r : Registers) (l : SoundSet r) (waits : Waiting r → P) (reads : r .mode ≡ Read → P) where
   idle-by : r .work ≡ Idle → (m : Mode) → r .mode ≡ m → (reasonBy Idle m (r .buffer) ≡ 0 → ⊥) → P
   idle-by e Write write still =
       cases (λ (x : ℕ). (x ≡ 0 → ⊥) → P) (eqb (r .buffer .count) 0)

@@ -21,10 +21,10 @@ sheet = 0x00 ∷ 0x00 ∷ 0x01 ∷ 0x01 ∷ 0x01 ∷ 0x03 ∷ 0x11 ∷ 0x00 ∷ 
 pub listing : List ℕ
 listing = 0x147 ∷ 0x28 ∷ 0x123 ∷ 0x149 ∷ 0x51 ∷ 0x00 ∷ 0x10 ∷ 0x178 ∷ 0xFF ∷ 0xFF ∷ 0x14C ∷ 0x02 ∷ 0x16C ∷ []
 
-pub bench : _≡_ {A = List Outcome}
+pub worked-sheet : _≡_ {A = List Outcome}
     (translateDef sheet 40 400 [] (replicate 15 7) ∷ translateDef sheet 40 400 [] (replicate 12 7) ∷ [])
     (outcome (answer 0 13 0) (listing ++ 7 ∷ 7 ∷ []) ∷ outcome (answer 20 13 0) (replicate 12 7) ∷ [])
 unfolding sheet listing operationOf figureOf decodedOf decodedAt sumWords checkOf zerosB headB blockRefusal firstFrom
     blocksChecked dirOf slopeOf dotEntries lineEntries rectangleEntries glyphEntries entriesOf slotRefusal recordsChecked slotFigures
     figuresFrom figures translated translation frameRefusal sheetRefusal answerOf translateDef
-bench = refl
+worked-sheet = refl
