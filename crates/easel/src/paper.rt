@@ -2,6 +2,19 @@
 use console::desk::Desk;
 use console::desk::Reply;
 use orders::Paper;
+ghost use mathlib.Core.Path.{_≡_};
+ghost use Rattle.easel.specs.Parts.{tableOf, sheetOf};
+ghost use Rattle.easel.specs.Paper.{
+  acceptedOn,
+  refusedOn,
+  sizeLaid,
+  glyphsLaid,
+  sheetLaid,
+  outcome,
+  newGlyphs,
+  moreSheet,
+  paperDone,
+};
 
 // The papers are one buffer: first a table of at most so many bytes, then a sheet.
 pub const TABLE: usize = 4096;
@@ -15,14 +28,18 @@ pub struct Laid {
 }
 
 // A line that was taken.
-fn accepted(d: Desk, letter: u8) -> Laid {
+fn accepted(d: Desk, letter: u8) -> Laid
+    ensures { λ q. ⌜ q ≡ acceptedOn d letter ⌝ }
+{
     Laid {
         desk: d,
         reply: Reply::One(letter, 0),
     }
 }
 
-fn refused(d: Desk) -> Laid {
+fn refused(d: Desk) -> Laid
+    ensures { λ q. ⌜ q ≡ refusedOn d ⌝ }
+{
     Laid {
         desk: d,
         reply: Reply::Unknown,
@@ -30,7 +47,9 @@ fn refused(d: Desk) -> Laid {
 }
 
 // `Q p h`
-fn size(d: Desk, p: u32, h: u32) -> Laid {
+fn size(d: Desk, p: u32, h: u32) -> Laid
+    ensures { λ q. ⌜ q ≡ sizeLaid d p h ⌝ }
+{
     let mut e = d;
     e.across = p;
     e.down = h;
@@ -38,21 +57,27 @@ fn size(d: Desk, p: u32, h: u32) -> Laid {
 }
 
 // The glyph table has n bytes: none with `G` alone.
-fn glyphs_are(d: Desk, n: usize) -> Laid {
+fn glyphs_are(d: Desk, n: usize) -> Laid
+    ensures { λ q. ⌜ q ≡ glyphsLaid d n ⌝ }
+{
     let mut e = d;
     e.glyphs = n;
     accepted(e, b'G')
 }
 
 // The sheet has n bytes: none with `Z`.
-fn sheet_is(d: Desk, n: usize, letter: u8) -> Laid {
+fn sheet_is(d: Desk, n: usize, letter: u8) -> Laid
+    ensures { λ q. ⌜ q ≡ sheetLaid d n letter ⌝ }
+{
     let mut e = d;
     e.sheet = n;
     accepted(e, letter)
 }
 
 // `G hex`
-fn new_glyphs(d: Desk, hex: &[u8], papers: &mut [u8]) -> Laid {
+fn new_glyphs(d: Desk, hex: &[u8], papers: &mut [u8]) -> Laid
+    ensures { λ q. ⌜ outcome q (now (papers .exit)) ≡ newGlyphs d (now (hex .entry)) (now (papers .entry)) ⌝ }
+{
     let n = hex.len() / 2;
     if TABLE < n {
         return refused(d);
@@ -65,7 +90,9 @@ fn new_glyphs(d: Desk, hex: &[u8], papers: &mut [u8]) -> Laid {
 }
 
 // `B hex`
-fn more_sheet(d: Desk, hex: &[u8], papers: &mut [u8]) -> Laid {
+fn more_sheet(d: Desk, hex: &[u8], papers: &mut [u8]) -> Laid
+    ensures { λ q. ⌜ outcome q (now (papers .exit)) ≡ moreSheet d (now (hex .entry)) (now (papers .entry)) ⌝ }
+{
     let n = hex.len() / 2;
     let had = d.sheet;
     if SHEET < had {
@@ -82,7 +109,9 @@ fn more_sheet(d: Desk, hex: &[u8], papers: &mut [u8]) -> Laid {
 }
 
 // What a line to the papers does; hex is what stands behind its letter and the space.
-pub fn paper_done(d: Desk, p: Paper, hex: &[u8], papers: &mut [u8]) -> Laid {
+pub fn paper_done(d: Desk, p: Paper, hex: &[u8], papers: &mut [u8]) -> Laid
+    ensures { λ q. ⌜ outcome q (now (papers .exit)) ≡ paperDone d p (now (hex .entry)) (now (papers .entry)) ⌝ }
+{
     match p {
         Paper::Size(p, h) => size(d, p, h),
         Paper::NoGlyphs => glyphs_are(d, 0),
@@ -93,13 +122,17 @@ pub fn paper_done(d: Desk, p: Paper, hex: &[u8], papers: &mut [u8]) -> Laid {
 }
 
 // The glyph table's n bytes.
-pub fn table_of(papers: &[u8], n: usize) -> &[u8] {
+pub fn table_of(papers: &[u8], n: usize) -> &[u8]
+    ensures { λ t. ⌜ now t ≡ tableOf (now (papers .entry)) n ⌝ }
+{
     let k = buffers::bytes_used(n, papers);
     &papers[..k]
 }
 
 // The sheet's n bytes.
-pub fn sheet_of(papers: &[u8], n: usize) -> &[u8] {
+pub fn sheet_of(papers: &[u8], n: usize) -> &[u8]
+    ensures { λ s. ⌜ now s ≡ sheetOf (now (papers .entry)) n ⌝ }
+{
     if papers.len() < TABLE {
         return papers;
     }

@@ -6,9 +6,20 @@ use console::desk::Done;
 use console::desk::Reply;
 use console::output;
 use registers::Registers;
+use sends::Sent;
+ghost use mathlib.Core.Path.{_≡_};
+ghost use Prim.Native.Nat.{_≤_};
+ghost use lib.ListN.{length};
+ghost use Rattle.registers.specs.State.{state};
+ghost use Rattle.sheets.specs.Sheet.{outcome as translatedTo};
+ghost use Rattle.sends.specs.Sends.{outcome};
+ghost use Rattle.easel.specs.Parts.{partOf};
+ghost use Rattle.easel.specs.Drawing.{translatedIn, played, playedWithin, drawingTold, drew, drawingDone};
 
 // The sheet is translated into a room of that many entries.
-fn translated(d: Desk, papers: &[u8], entries: &mut [u16], room: usize) -> blocks::Answer {
+fn translated(d: Desk, papers: &[u8], entries: &mut [u16], room: usize) -> blocks::Answer
+    ensures { λ a. ⌜ translatedTo a (now (entries .exit)) ≡ translatedIn d (now (papers .entry)) (now (entries .entry)) room ⌝ }
+{
     let n = buffers::words_used(room, entries);
     sheets::translate(
         sheet_of(papers, d.sheet),
@@ -39,38 +50,40 @@ pub fn translation(d: Desk, room: u32, papers: &[u8], out: &mut [u8]) -> usize {
     translation_told(a, &entries, out, d.held)
 }
 
-// Units done, and the registers after them.
-pub struct Sent {
-    pub units: u64,
-    pub regs: Registers,
-}
-
 // Each entry is sent and the controller run until it is idle, or a read awaits room; one that is refused changes nothing.
-fn send_all(r: Registers, entries: &[u16], mem: &mut [u16]) -> Sent {
+fn send_all(r: Registers, entries: &[u16], mem: &mut [u16]) -> Sent
+    requires { ⌜ length (now entries) ≤ 16802 ⌝ }
+    ensures { λ q. ⌜ outcome q (now (mem .exit)) ≡ played (state r (now (mem .entry))) (now (entries .entry)) ⌝ }
+{
     let mut q = r;
-    let mut done: u64 = 0;
+    let mut units: u64 = 0;
     let mut i: usize = 0;
     while i < entries.len() {
         let s = sends::finish(sends::to_port(q, entries[i]), mem);
         q = s.regs;
-        done = std::num::wrapping_add_u64(done, s.units);
+        units += s.units;
         i += 1;
     }
     Sent {
-        units: done,
         regs: q,
+        units: units,
     }
 }
 
 // The first n entries are sent, over the words that the memory has.
-fn send_within(r: Registers, entries: &[u16], n: u32, mem: &mut [u16], most: usize) -> Sent {
+fn send_within(r: Registers, entries: &[u16], n: u32, mem: &mut [u16], most: usize) -> Sent
+    requires { ⌜ length (now entries) ≤ 16802 ⌝ }
+    ensures { λ q. ⌜ outcome q (now (mem .exit)) ≡ playedWithin r (partOf n (now (entries .entry))) (now (mem .entry)) most ⌝ }
+{
     let count = buffers::words_used(n as usize, entries);
     let words = buffers::words_used(most, mem);
     send_all(r, &entries[..count], &mut mem[..words])
 }
 
 // The answer to `X`.
-fn drawing_done(a: blocks::Answer, s: Sent) -> Done {
+fn drawing_done(a: blocks::Answer, s: Sent) -> Done
+    ensures { λ q. ⌜ q ≡ drawingTold a s ⌝ }
+{
     let q = s.regs;
     Done {
         regs: q,
@@ -85,11 +98,13 @@ fn drawing_done(a: blocks::Answer, s: Sent) -> Done {
 }
 
 // `X`
-pub fn drawing(r: Registers, d: Desk, mem: &mut [u16], papers: &[u8]) -> Done {
+pub fn drawing(r: Registers, d: Desk, mem: &mut [u16], papers: &[u8]) -> Done
+    ensures { λ q. ⌜ drew q (now (mem .exit)) ≡ drawingDone r d (now (mem .entry)) (now (papers .entry)) ⌝ }
+{
     let mut entries = [0u16; 16802];
     let a = translated(d, papers, &mut entries, 16802);
     if a.number != 0 {
-        return drawing_done(a, Sent { units: 0, regs: r });
+        return drawing_done(a, Sent { regs: r, units: 0 });
     }
     drawing_done(a, send_within(r, &entries, a.first, mem, d.words))
 }
