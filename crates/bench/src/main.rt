@@ -12,6 +12,8 @@ use easel::Laid;
 use orders::Order;
 use orders::Show;
 use registers::Registers;
+ghost use mathlib.Core.Path.{_≡_};
+ghost use Rattle.bench.specs.Line.{askedFor, behindOf};
 
 // The registers of a line, and its answer written.
 fn done(a: Done, d: Desk, out: &mut [u8]) -> Left {
@@ -49,13 +51,17 @@ fn shown(r: Registers, d: Desk, s: Show, mem: &[u16], out: &mut [u8]) -> Desk {
 }
 
 // What a line of that length asks for.
-fn order(line: &[u8], length: usize) -> Order {
+fn order(line: &[u8], length: usize) -> Order
+    ensures { λ o. ⌜ o ≡ askedFor (now (line .entry)) length ⌝ }
+{
     let n = buffers::bytes_used(length, line);
     orders::order_of(script::read_line(&line[..n]))
 }
 
 // What stands behind its letter and the space.
-fn behind(line: &[u8], length: usize) -> &[u8] {
+fn behind(line: &[u8], length: usize) -> &[u8]
+    ensures { λ s. ⌜ now s ≡ behindOf (now (line .entry)) length ⌝ }
+{
     let n = buffers::bytes_used(length, line);
     let all = &line[..n];
     if all.len() < 2 {

@@ -1,5 +1,7 @@
 // What stands on the bench: the registers, how much of each buffer is in use, and the picture's size.
 use registers::Registers;
+ghost use mathlib.Core.Path.{_≡_};
+ghost use Rattle.console.specs.Desk.{beforeFirst, withHeld};
 
 pub struct Desk {
     // The words of the memory.
@@ -36,7 +38,9 @@ pub struct Done {
 }
 
 // Before the first line.
-pub fn start() -> Left {
+pub fn start() -> Left
+    ensures { λ l. ⌜ l ≡ beforeFirst ⌝ }
+{
     Left {
         regs: registers::fresh(),
         desk: Desk {
@@ -50,7 +54,9 @@ pub fn start() -> Left {
     }
 }
 
-pub fn with_held(d: Desk, held: usize) -> Desk {
+pub fn with_held(d: Desk, held: usize) -> Desk
+    ensures { λ e. ⌜ e ≡ withHeld d held ⌝ }
+{
     let mut n = d;
     n.held = held;
     n

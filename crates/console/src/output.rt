@@ -65,7 +65,9 @@ pub fn fields(out: &mut [u8], held: usize, values: &[u64]) -> usize {
     n
 }
 
-fn wide(b: u8) -> u64 {
+fn wide(b: u8) -> u64
+    ensures { λ n. ⌜ n ≡ b ⌝ }
+{
     b as u64
 }
 
@@ -80,7 +82,9 @@ pub fn pairs(out: &mut [u8], held: usize, bytes: &[u8]) -> usize {
     n
 }
 
-fn wide_word(w: u16) -> u64 {
+fn wide_word(w: u16) -> u64
+    ensures { λ n. ⌜ n ≡ w ⌝ }
+{
     w as u64
 }
 

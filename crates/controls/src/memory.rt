@@ -3,6 +3,18 @@ use console::desk::Reply;
 use orders::Memory;
 use registers::Registers;
 use units::Ran;
+ghost use mathlib.Core.Path.{_≡_};
+ghost use Rattle.units.specs.Run.{outcome as ranOutcome};
+ghost use Rattle.controls.specs.Memory.{
+  outcome,
+  put,
+  clearedFirst,
+  freshDone,
+  wordDone,
+  runWithin,
+  runTold,
+  memoryDone,
+};
 
 // What such a line does: the registers and the memory's length after it, and its answer.
 pub struct Worked {
@@ -11,13 +23,17 @@ pub struct Worked {
     pub reply: Reply,
 }
 
-fn clear_first(mem: &mut [u16], words: usize) {
+fn clear_first(mem: &mut [u16], words: usize)
+    ensures { λ _. ⌜ now (mem .exit) ≡ clearedFirst words (now (mem .entry)) ⌝ }
+{
     let n = buffers::words_used(words, mem);
     buffers::clear(&mut mem[..n]);
 }
 
 // `M n`: fresh registers and a memory of n zero words.
-fn fresh(r: Registers, words: usize, n: u64, mem: &mut [u16]) -> Worked {
+fn fresh(r: Registers, words: usize, n: u64, mem: &mut [u16]) -> Worked
+    ensures { λ q. ⌜ outcome q (now (mem .exit)) ≡ freshDone r words n (now (mem .entry)) ⌝ }
+{
     let wanted = n as usize;
     if !units::length_right(wanted) {
         return Worked {
@@ -35,7 +51,9 @@ fn fresh(r: Registers, words: usize, n: u64, mem: &mut [u16]) -> Worked {
 }
 
 // `W a v`: a word of the memory.
-fn word(words: usize, a: u64, v: u16, mem: &mut [u16]) -> Reply {
+fn word(words: usize, a: u64, v: u16, mem: &mut [u16]) -> Reply
+    ensures { λ q. ⌜ put q (now (mem .exit)) ≡ wordDone words a v (now (mem .entry)) ⌝ }
+{
     let at = a as usize;
     if words <= at {
         return Reply::Unknown;
@@ -45,13 +63,17 @@ fn word(words: usize, a: u64, v: u16, mem: &mut [u16]) -> Reply {
 }
 
 // A run over the words that the memory has.
-fn run_within(r: Registers, mem: &mut [u16], words: usize, budget: u32) -> Ran {
+fn run_within(r: Registers, mem: &mut [u16], words: usize, budget: u32) -> Ran
+    ensures { λ q. ⌜ ranOutcome q (now (mem .exit)) ≡ runWithin r (now (mem .entry)) words budget ⌝ }
+{
     let n = buffers::words_used(words, mem);
     units::run(r, &mut mem[..n], budget)
 }
 
 // `U n`
-fn run(a: Ran, words: usize) -> Worked {
+fn run(a: Ran, words: usize) -> Worked
+    ensures { λ q. ⌜ q ≡ runTold a words ⌝ }
+{
     let q = a.regs;
     Worked {
         regs: q,
@@ -61,7 +83,9 @@ fn run(a: Ran, words: usize) -> Worked {
 }
 
 // What a line to the memory does.
-pub fn memory_done(r: Registers, words: usize, m: Memory, mem: &mut [u16]) -> Worked {
+pub fn memory_done(r: Registers, words: usize, m: Memory, mem: &mut [u16]) -> Worked
+    ensures { λ q. ⌜ outcome q (now (mem .exit)) ≡ memoryDone r words m (now (mem .entry)) ⌝ }
+{
     match m {
         Memory::Fresh(n) => fresh(r, words, n, mem),
         Memory::Run(n) => run(run_within(r, mem, words, n), words),

@@ -1,0 +1,13 @@
+-- `start` gives `beforeFirst`: the registers are `fresh`'s.
+use borrow.Author.Needs.{needs}
+use Rattle.console.proofs.desk.start.Statement.{statement}
+use Rattle.console.proofs.desk.start.Tie as tie
+
+fresh-requires : tie.Need-fresh-requires
+fresh-requires c κs = search needs
+
+returns : tie.Need-returns
+returns c = rw (c .fresh .ensures)
+
+pub start-spec : {M : Type 1} → statement M
+start-spec = tie.close (tie.spec fresh-requires returns)
