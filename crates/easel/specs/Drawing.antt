@@ -1,6 +1,6 @@
 -- What `X` does: "the sheet is translated with room enough, and if it is accepted each entry is sent and the controller run until idle
 -- after it; an entry that is refused is passed over".
-use Prim.Native.Nat.{ℕ, _+_}
+use Prim.Native.Nat.{ℕ}
 use mathlib.Core.Bool.{cond}
 use mathlib.Core.List.{List, [], _∷_, _++_}
 use lib.Dec.{eqb}

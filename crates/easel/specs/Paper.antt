@@ -1,5 +1,5 @@
 -- What a line to the picture's size, the glyph table or the sheet does: what stands on the bench then, its answer, and the papers' bytes.
-use Prim.Native.Nat.{ℕ, _+_, _-_, _/_}
+use Prim.Native.Nat.{ℕ, _+_, _/_}
 use mathlib.Core.Bool.{cond}
 use mathlib.Core.List.{List}
 use lib.Dec.{ltb}
