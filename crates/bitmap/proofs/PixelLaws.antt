@@ -24,111 +24,34 @@ dot-bit : (p x y : ℕ) (mem : List ℕ) → dot p x y mem < 2
 unfolding dot bit
 dot-bit p x y mem = omega arith
 
+-- eight of them in a line, from x on
+record Eight (p x y : ℕ) (mem : List ℕ) : Type 0 where
+  d0 : dot p x y mem < 2
+  d1 : dot p (x + 1) y mem < 2
+  d2 : dot p (x + 2) y mem < 2
+  d3 : dot p (x + 3) y mem < 2
+  d4 : dot p (x + 4) y mem < 2
+  d5 : dot p (x + 5) y mem < 2
+  d6 : dot p (x + 6) y mem < 2
+  d7 : dot p (x + 7) y mem < 2
+
+eight : (p x y : ℕ) (mem : List ℕ) → Eight p x y mem
+eight p x y mem =
+    let d : (n : ℕ) → dot p n y mem < 2 = λ n. dot-bit p n y mem in
+    record { d0 = d x; d1 = d (x + 1); d2 = d (x + 2); d3 = d (x + 3); d4 = d (x + 4); d5 = d (x + 5); d6 = d (x + 6); d7 = d (x + 7) }
+
 -- the dots of a byte are its bits, the leftmost the most significant
 module _ (p y b : ℕ) (mem : List ℕ) where
-  below : (x : ℕ) → dot p x y mem < 2
-  below x = dot-bit p x y mem
-
   pub byte-bit : (i : ℕ) → i < 8 → bit (7 - i) (byteAt p y b mem) ≡ dot p (8 * b + i) y mem
   unfolding bit byteAt
-  byte-bit zero h =
-      let e : 8 * b + 0 ≡ 8 * b =
-      omega arith in
-      rw e (omega (
-        arith,
-        below (8 * b),
-        below (8 * b + 1),
-        below (8 * b + 2),
-        below (8 * b + 3),
-        below (8 * b + 4),
-        below (8 * b + 5),
-        below (8 * b + 6),
-        below (8 * b + 7),
-      ))
-  byte-bit (suc zero) h =
-      omega (
-        arith,
-        below (8 * b),
-        below (8 * b + 1),
-        below (8 * b + 2),
-        below (8 * b + 3),
-        below (8 * b + 4),
-        below (8 * b + 5),
-        below (8 * b + 6),
-        below (8 * b + 7),
-      )
-  byte-bit (suc (suc zero)) h =
-      omega (
-        arith,
-        below (8 * b),
-        below (8 * b + 1),
-        below (8 * b + 2),
-        below (8 * b + 3),
-        below (8 * b + 4),
-        below (8 * b + 5),
-        below (8 * b + 6),
-        below (8 * b + 7),
-      )
-  byte-bit (suc (suc (suc zero))) h =
-      omega (
-        arith,
-        below (8 * b),
-        below (8 * b + 1),
-        below (8 * b + 2),
-        below (8 * b + 3),
-        below (8 * b + 4),
-        below (8 * b + 5),
-        below (8 * b + 6),
-        below (8 * b + 7),
-      )
-  byte-bit (suc (suc (suc (suc zero)))) h =
-      omega (
-        arith,
-        below (8 * b),
-        below (8 * b + 1),
-        below (8 * b + 2),
-        below (8 * b + 3),
-        below (8 * b + 4),
-        below (8 * b + 5),
-        below (8 * b + 6),
-        below (8 * b + 7),
-      )
-  byte-bit (suc (suc (suc (suc (suc zero))))) h =
-      omega (
-        arith,
-        below (8 * b),
-        below (8 * b + 1),
-        below (8 * b + 2),
-        below (8 * b + 3),
-        below (8 * b + 4),
-        below (8 * b + 5),
-        below (8 * b + 6),
-        below (8 * b + 7),
-      )
-  byte-bit (suc (suc (suc (suc (suc (suc zero)))))) h =
-      omega (
-        arith,
-        below (8 * b),
-        below (8 * b + 1),
-        below (8 * b + 2),
-        below (8 * b + 3),
-        below (8 * b + 4),
-        below (8 * b + 5),
-        below (8 * b + 6),
-        below (8 * b + 7),
-      )
-  byte-bit (suc (suc (suc (suc (suc (suc (suc zero))))))) h =
-      omega (
-        arith,
-        below (8 * b),
-        below (8 * b + 1),
-        below (8 * b + 2),
-        below (8 * b + 3),
-        below (8 * b + 4),
-        below (8 * b + 5),
-        below (8 * b + 6),
-        below (8 * b + 7),
-      )
+  byte-bit zero h = let e : 8 * b + 0 ≡ 8 * b = omega arith in rw e (omega (arith, eight p (8 * b) y mem))
+  byte-bit (suc zero) h = omega (arith, eight p (8 * b) y mem)
+  byte-bit (suc (suc zero)) h = omega (arith, eight p (8 * b) y mem)
+  byte-bit (suc (suc (suc zero))) h = omega (arith, eight p (8 * b) y mem)
+  byte-bit (suc (suc (suc (suc zero)))) h = omega (arith, eight p (8 * b) y mem)
+  byte-bit (suc (suc (suc (suc (suc zero))))) h = omega (arith, eight p (8 * b) y mem)
+  byte-bit (suc (suc (suc (suc (suc (suc zero)))))) h = omega (arith, eight p (8 * b) y mem)
+  byte-bit (suc (suc (suc (suc (suc (suc (suc zero))))))) h = omega (arith, eight p (8 * b) y mem)
   byte-bit (suc (suc (suc (suc (suc (suc (suc (suc i)))))))) h = absurd (omega arith)
 
 -- pixel (x, y) of an image that reaches so far

@@ -13,6 +13,7 @@ use Rattle.units.specs.Run.{runDone}
 use Rattle.laws.proofs.BranchLaws.{either}
 use Rattle.laws.proofs.RunLaws.{run-within}
 use Rattle.sending.specs.Send.{written, fullBudget}
+use Rattle.sends.proofs.FinishLaws.{more-more}
 use Rattle.sends.specs.Sends.{Outcome, outcome, leftAt, more, runsDone, finished}
 use Rattle.easel.specs.Drawing.{entryPlayed, played}
 
@@ -28,11 +29,6 @@ runs-few (suc n) s =
 pub finished-few : (s : State) {o : Outcome} → o ≡ finished s → o .sent .units ≤ 1168231104240
 unfolding finished
 finished-few s e = rw e (runs-few 272 s)
-
-more-more : (u v : ℕ) (o : Outcome) → more u (more v o) ≡ more (u + v) o
-more-more u v o =
-    let e : u + (v + o .sent .units) ≡ u + v + o .sent .units = omega arith in
-    ap (λ (k : ℕ). outcome (record { regs = o .sent .regs; units = k }) (o .mem)) e
 
 module _ (u i : ℕ) (entries : List ℕ) (s : State) where
   pub plays-on : {p : Registers} {o : Outcome} → i < length entries → p ≡ written (s .regs) (getD entries i 0) .regs

@@ -109,7 +109,7 @@ waits-already r m v long =
     (run-idle fullBudget (state r m) (waiting-sound v 0) long (omega arith) busy ∙ ap (stopped (state r m) 0) z)
 
 -- ---- the loop of `finish`
-more-more : (u v : ℕ) (o : Outcome) → more u (more v o) ≡ more (u + v) o
+pub more-more : (u v : ℕ) (o : Outcome) → more u (more v o) ≡ more (u + v) o
 more-more u v o =
     let e : u + (v + o .sent .units) ≡ u + v + o .sent .units = omega arith in
     ap (λ (k : ℕ). outcome (record { regs = o .sent .regs; units = k }) (o .mem)) e
