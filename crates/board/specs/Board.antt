@@ -6,7 +6,10 @@ use mathlib.Core.List.{List}
 use Rattle.registers.specs.declared.Registers.{Registers}
 use Rattle.units.specs.declared.Ran.{Ran}
 use Rattle.units.specs.Run.{Outcome, outcome}
+use Rattle.sends.specs.declared.Listed.{Listed}
+use Rattle.sends.specs.Sends.{ListOutcome, listed}
 use Rattle.board.specs.declared.Report.{Report}
+use Rattle.board.specs.declared.Tally.{Tally}
 
 -- the report, the registers that stand behind the reference, and the memory
 abbrev pub report : Report → Registers → List ℕ → Outcome
@@ -15,3 +18,12 @@ report q r m = outcome (record { number = q .number; count = q .count; why = q .
 -- the answer of a run without its registers
 abbrev pub reportOf : Ran → Report
 reportOf d = record { number = d .number; count = d .count; why = d .why }
+
+-- A list of entries by reference, likewise: what the sending by value would have answered, put together from the tally, the registers
+-- that stand behind the reference, and the memory
+abbrev pub tallied : Tally → Registers → List ℕ → ListOutcome
+tallied q r m = listed (record { number = q .number; taken = q .taken; units = q .units; regs = r }) m
+
+-- the answer of a sending without its registers
+abbrev pub tallyOf : Listed → Tally
+tallyOf d = record { number = d .number; taken = d .taken; units = d .units }

@@ -1,10 +1,12 @@
-// The board call: a run on the register set where it stands.
+// The board calls: a run on the register set where it stands, and a list of entries sent to it.
 use registers::Registers;
+use sends::Listed;
 use units::Ran;
 ghost use mathlib.Core.Path.{_≡_};
 ghost use Rattle.registers.specs.State.{state};
 ghost use Rattle.units.specs.Run.{runDone};
-ghost use Rattle.board.specs.Board.{report, reportOf};
+ghost use Rattle.sends.specs.Sends.{listSent};
+ghost use Rattle.board.specs.Board.{report, reportOf, tallied, tallyOf};
 
 // What a board call answers: a number of refusal, the units done, and why it stopped.
 pub struct Report {
@@ -38,4 +40,40 @@ pub fn board_run(r: &mut Registers, mem: &mut [u16], budget: u32) -> Report
     let done = units::run(*r, mem, budget);
     *r = regs_of(done);
     report_of(done)
+}
+
+// What a list of entries answers: a number of refusal, how many entries were taken, and the units of their runs.
+pub struct Tally {
+    pub number: u8,
+    pub taken: u64,
+    pub units: u64,
+}
+
+// The registers of a list's answer.
+fn regs_of_sent(d: Listed) -> Registers
+    ensures { λ q. ⌜ q ≡ d .regs ⌝ }
+{
+    d.regs
+}
+
+// A list's answer without its registers.
+fn tally_of(d: Listed) -> Tally
+    ensures { λ q. ⌜ q ≡ tallyOf d ⌝ }
+{
+    Tally {
+        number: d.number,
+        taken: d.taken,
+        units: d.units,
+    }
+}
+
+// A list of entries sent by value, to what stands behind the reference; the registers are stored back there.
+pub fn board_send(r: &mut Registers, entries: &[u16], mem: &mut [u16]) -> Tally
+    ensures { λ q.
+        ⌜ tallied q (now (r .exit)) (now (mem .exit))
+        ≡ listSent (state (now (r .entry)) (now (mem .entry))) (now (entries .entry)) ⌝ }
+{
+    let done = sends::send_all(*r, entries, mem);
+    *r = regs_of_sent(done);
+    tally_of(done)
 }

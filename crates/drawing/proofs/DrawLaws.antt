@@ -3,8 +3,9 @@
 use mathlib.Core.Path.{_≡_, sym, ap, _∙_}
 use mathlib.Core.Bool.{true, false}
 use mathlib.Core.List.{List}
-use Prim.Native.Nat.{ℕ}
-use lib.ListN.{length, take}
+use Prim.Native.Nat.{ℕ, _≤_}
+use lib.ListN.{length, take, length-take}
+use native.Mathlib.Omega.{arith}
 use borrow.Author.Tests.{eq-eqb, ne-eqb}
 use Rattle.registers.specs.declared.Registers.{Registers}
 use Rattle.registers.specs.Sound.{soundB}
@@ -13,9 +14,12 @@ use Rattle.units.specs.Run.{lengthB}
 use Rattle.blocks.specs.declared.Answer.{Answer}
 use Rattle.sheets.specs.Sheet.{answerOf, translateDef}
 use Rattle.sheets.specs.Sheet.{Outcome as Translated, outcome as translated}
+use Rattle.entries.proofs.PutLaws.{placed-length}
+use Rattle.sheets.proofs.SheetLaws.{translated-means}
 use Rattle.drawing.specs.declared.Drawn.{Drawn}
 use Rattle.sends.specs.declared.Sent.{Sent}
-use Rattle.sends.specs.Sends.{leftAt, listSent, finished}
+use Rattle.sends.specs.declared.Listed.{Listed}
+use Rattle.sends.specs.Sends.{leftAt, finished, listed, listSent}
 use Rattle.sends.specs.Sends.{Outcome as Sending, outcome as sending}
 use Rattle.drawing.specs.Draw.{Outcome, outcome, refusal, allSent, drawnBy, largerB, sheetDrawn}
 
@@ -54,8 +58,8 @@ module _ (sheet : List ℕ) (p h : ℕ) (glyphs : List ℕ) (r : Registers) (ent
             → outcome q out mem ≡ all
         way-refused z e = rw (past, e, unaltered z, ne-eqb (a .number) 0 z)
 
-        pub way-sent : {w q : Sent} {m n : List ℕ} → a .number ≡ 0 → sending w m ≡ finished (state r mem)
-            → sending q n ≡ listSent (state (w .regs) m) (take (a .first) out)
+        pub way-sent : {w : Sent} {q : Listed} {m n : List ℕ} → a .number ≡ 0 → sending w m ≡ finished (state r mem)
+            → listed q n ≡ listSent (state (w .regs) m) (take (a .first) out)
             → outcome (record { number = 0; first = a .first; second = a .second; units = q .units; earlier = w .units; regs = q .regs })
             out n
             ≡ all
@@ -71,3 +75,15 @@ module _ (sheet : List ℕ) (p h : ℕ) (glyphs : List ℕ) (r : Registers) (ent
     ap (λ (x : Outcome). x .entries) (e ∙ sym f),
     ap (λ (x : Outcome). x .mem) (e ∙ sym f),
   )
+
+-- the entries that were written are a part of the output
+module _ (sheet : List ℕ) (p h : ℕ) (glyphs entries : List ℕ) {a : Answer} {out : List ℕ}
+    (t : translated a out ≡ translateDef sheet p h glyphs entries) (z : a .number ≡ 0) where
+  pub part-fits : a .first ≤ length out
+  part-fits =
+      let k = translated-means sheet p h glyphs entries t z in
+      let e : length out ≡ length entries = ap length (k .out) ∙ placed-length entries 0 _ in
+      omega (arith, k .fits)
+
+  pub part-long : a .first ≡ length (take (a .first) out)
+  part-long = sym (length-take (a .first) out ∙ omega (arith, part-fits))

@@ -4,7 +4,7 @@
 use mathlib.Core.Path.{_≡_, refl, sym, ap, subst, _∙_}
 use mathlib.Core.Bool.{Bool, true, false, _&&_}
 use mathlib.Core.List.{List, _∷_}
-use Prim.Native.Nat.{ℕ, _+_, _*_, _≤_}
+use Prim.Native.Nat.{ℕ, _+_, _*_, _/_, _≤_}
 use native.Mathlib.Omega.{arith}
 use lib.ListN.{length, getD, take}
 use borrow.Author.Tests.{eq-eqb, le-ltb}
@@ -19,18 +19,20 @@ use Rattle.ports.specs.Port.{turnedBack}
 use Rattle.records.specs.declared.Record.{Record}
 use Rattle.blocks.specs.declared.Answer.{Answer}
 use Rattle.sheets.specs.Slots.{translated, translation}
-use Rattle.sheets.specs.Sheet.{planeB, figuresOf, translateDef}
-use Rattle.sheets.proofs.SlotLaws.{translation-length}
+use Rattle.sheets.specs.Slots.{figures as slotFigures}
+use Rattle.sheets.specs.Sheet.{planeB, roomOf, figuresOf, translateDef}
+use Rattle.sheets.proofs.SlotLaws.{translation-length, figures-few}
 use Rattle.sheets.proofs.SheetLaws.{translated-means}
-use Rattle.laws.proofs.KeptLaws.{SoundSet, lawful, lawful-typed}
+use Rattle.laws.proofs.KeptLaws.{SoundSet, lawful, lawful-sound, lawful-typed}
 use Rattle.sending.specs.Send.{Ready, Reply, Accepted, sent, left, sentAll, AllAccepted, unitsOf}
 use Rattle.sending.proofs.WaitLaws.{Waiting, waiting, waiting-ready}
 use Rattle.sending.proofs.ReadLaws.{turned-waits, pitch-turns}
 use Rattle.demand.specs.Shown.{Shown, Bytes}
 use Rattle.demand.proofs.Whole.{taken-out, picture-is-right}
-use Rattle.sends.specs.Sends.{leftAt, unmoved, listSent, finished}
+use Rattle.sends.specs.Sends.{leftAt, unmoved, finished, mostListed, listSent}
 use Rattle.sends.specs.Sends.{Outcome as Sending}
 use Rattle.sends.proofs.FinishLaws.{finishes, stands, waits-already}
+use Rattle.sends.proofs.SendLaws.{accepted-listed}
 use Rattle.drawing.specs.declared.Drawn.{Drawn}
 use Rattle.drawing.specs.Draw.{Outcome, outcome, allSent, largerB, sheetDrawn}
 use Rattle.drawing.specs.Right.{Right, SheetIsDrawn, ReadySheetIsDrawn}
@@ -76,6 +78,17 @@ module _ (sheet : List ℕ) (p h : ℕ) (glyphs : List ℕ) (entries : List ℕ)
   size : length all ≡ a .first
   size = translation-length glyphs p figures ∙ sym (translated-means sheet p h glyphs entries refl accepted .first)
 
+  few : length all ≤ mostListed
+  unfolding slotFigures
+  few =
+      let k = translated-means sheet p h glyphs entries refl accepted .frame in
+      omega (
+        arith,
+        k .blocks,
+        translation-length glyphs p figures,
+        figures-few sheet (roomOf p h (length glyphs)) (50 * (length sheet / 512)) 0,
+      )
+
   first-written : take (a .first) out ≡ all
   first-written =
       let k = translated-means sheet p h glyphs entries refl accepted in
@@ -110,12 +123,14 @@ module _ (sheet : List ℕ) (p h : ℕ) (glyphs : List ℕ) (entries : List ℕ)
     granted s l room = rw (s, l, fits room, eq-eqb (a .number) 0 accepted)
 
   -- what the entries draw from w on is what the answer says
-  right : (w : Sending) {q : Drawn} {out′ drawn : List ℕ} → Shown p h glyphs figures all (leftAt w)
+  right : (w : Sending) {q : Drawn} {out′ drawn : List ℕ} → soundB (w .sent .regs) ≡ true → lengthB (length (w .mem)) ≡ true
+      → Shown p h glyphs figures all (leftAt w)
       → outcome q out′ drawn ≡ allSent a out w (listSent (leftAt w) (take (a .first) out))
       → Right p h glyphs figures (w .sent .regs) (w .mem) q out′ drawn
-  unfolding listSent
-  right w {q} shown e =
-      let sends = e ∙ ap (λ (l : List ℕ). allSent a out w (listSent (leftAt w) l)) first-written in
+  right w {q} sound long shown e =
+      let sends =
+      e ∙ ap (λ (l : List ℕ). allSent a out w (listSent (leftAt w) l)) first-written
+      ∙ ap (allSent a out w) (accepted-listed (leftAt w) all sound long few (shown .accepted)) in
       let first : q .first ≡ a .first = ap (λ (x : Outcome). x .drawn .first) e in
       record {
         number = ap (λ (x : Outcome). x .drawn .number) e;
@@ -136,7 +151,7 @@ sheet-is-drawn sheet p h glyphs r entries mem q out′ drawn e z bytes sound typ
     (record { regs = lawful r sound typed; words = words; long = refl }) in
     let long′ : lengthB (length (w .mem)) ≡ true = ap lengthB (settled .whole .long) ∙ long in
     let room′ : p * h ≤ length (w .mem) = rw (settled .whole .long) room in
-    right sheet p h glyphs entries z bytes w
+    right sheet p h glyphs entries z bytes w (lawful-sound (w .sent .regs) (settled .whole .regs)) long′
     (stands (w .sent .regs) (settled .whole .regs)
     (λ v. from-waiting sheet p h glyphs entries z bytes (w .sent .regs) v (w .mem) long′ room′)
     (λ k. from-reading sheet p h glyphs entries z bytes (w .sent .regs) (settled .whole .regs) k (w .mem) long′ room′) (settled .still))
@@ -146,7 +161,8 @@ pub ready-sheet-is-drawn : ReadySheetIsDrawn
 ready-sheet-is-drawn sheet p h glyphs r entries mem q out′ drawn e z bytes ready typed long room =
     let v = waiting r ready typed in
     let t = translateDef sheet p h glyphs entries in
-    right sheet p h glyphs entries z bytes (unmoved (state r mem)) (from-waiting sheet p h glyphs entries z bytes r v mem long room)
+    right sheet p h glyphs entries z bytes (unmoved (state r mem)) (ready .sound) long
+    (from-waiting sheet p h glyphs entries z bytes r v mem long room)
     (e ∙ granted sheet p h glyphs entries z bytes r mem (ready .sound) long room
     ∙ ap (λ (w : Sending). allSent (t .answer) (t .out) w (listSent (leftAt w) (take (t .answer .first) (t .out))))
     (waits-already r mem v long))

@@ -12,7 +12,7 @@ use Rattle.registers.specs.State.{state}
 use Rattle.units.specs.Run.{lengthB}
 use Rattle.blocks.specs.declared.Answer.{Answer}
 use Rattle.sheets.specs.Sheet.{planeB, translateDef}
-use Rattle.sends.specs.Sends.{leftAt, listSent, finished}
+use Rattle.sends.specs.Sends.{leftAt, finished, ListOutcome, listSent}
 use Rattle.sends.specs.Sends.{Outcome as Sending}
 use Rattle.drawing.specs.declared.Drawn.{Drawn}
 
@@ -31,16 +31,16 @@ refusal n a b r = record { number = n; first = a; second = b; units = 0; earlier
 
 -- "Success is number 0, for a translation with the entries written": the translator's answer a and all that its output then holds; w is
 -- what finishing the earlier work left, q what sending the entries left. The units of the two are told apart.
-abbrev pub allSent : Answer → List ℕ → Sending → Sending → Outcome
+abbrev pub allSent : Answer → List ℕ → Sending → ListOutcome → Outcome
 allSent a e w q =
     outcome
     (record {
       number = 0;
       first = a .first;
       second = a .second;
-      units = q .sent .units;
+      units = q .list .units;
       earlier = w .sent .units;
-      regs = q .sent .regs;
+      regs = q .list .regs;
     }) e (q .mem)
 
 -- the translator's 11 to 20 with their two values, else the entries that it wrote are sent; "Memory, sheet and output are unaltered by a

@@ -63,7 +63,8 @@ pub fn draw_sheet(
         return refuse(a.number, a.first, a.second, r);
     }
     let w = sends::finish(r, mem);
-    let q = sends::send_all(w.regs, entries, a.first, mem);
+    let n = a.first as usize;
+    let q = sends::send_all(w.regs, &entries[..n], mem);
     let regs = q.regs;
     Drawn {
         number: 0,

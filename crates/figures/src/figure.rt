@@ -1,9 +1,6 @@
-// A figure that FIGD draws: dots along a direction, a line, a rectangle.
+// The pattern, the steps and the running D of a figure that FIGD draws: dots along a direction, a line, a rectangle.
 use registers::Drawing;
-use registers::Registers;
-use registers::Work;
 ghost use mathlib.Core.Path.{_≡_};
-ghost use Rattle.registers.specs.State.{state};
 ghost use Rattle.figures.specs.Figure.{
   patternOf,
   axisOf,
@@ -13,8 +10,6 @@ ghost use Rattle.figures.specs.Figure.{
   sideOf,
   directionAt,
   runningD,
-  figureMoved,
-  figureUnit,
 };
 
 // D is two's complement of 14 bits.
@@ -23,7 +18,7 @@ const SIGN: u16 = 8192;
 const FOURTEEN_BITS: u32 = 16384;
 
 // Dot k's pattern bit, for all masked bits.
-fn pattern_of(low: u8, high: u8, k: u32) -> u16
+pub fn pattern_of(low: u8, high: u8, k: u32) -> u16
     ensures { λ p. ⌜ p ≡ patternOf low high k ⌝ }
 {
     let word = low as u32 + 256 * high as u32;
@@ -31,7 +26,7 @@ fn pattern_of(low: u8, high: u8, k: u32) -> u16
 }
 
 // The axis and the diagonal of a line.
-fn axis_of(dir: u8) -> u8
+pub fn axis_of(dir: u8) -> u8
     ensures { λ n. ⌜ n ≡ axisOf dir ⌝ }
 {
     if dir % 2 == 0 {
@@ -40,7 +35,7 @@ fn axis_of(dir: u8) -> u8
     ((dir as u16 + 1) % 8) as u8
 }
 
-fn diagonal_of(dir: u8) -> u8
+pub fn diagonal_of(dir: u8) -> u8
     ensures { λ n. ⌜ n ≡ diagonalOf dir ⌝ }
 {
     if dir % 2 == 0 {
@@ -89,7 +84,7 @@ fn side_of(d: u16, d2: u16, k: u32) -> u16
 }
 
 // The direction of the step after dot k.
-fn direction_at(f: Drawing, k: u32, d: u16) -> u8
+pub fn direction_at(f: Drawing, k: u32, d: u16) -> u8
     ensures { λ n. ⌜ n ≡ directionAt f k d ⌝ }
 {
     if f.kind == registers::LINE_KIND {
@@ -102,42 +97,11 @@ fn direction_at(f: Drawing, k: u32, d: u16) -> u8
 }
 
 // The running D after dot k.
-fn running_d(f: Drawing, d: u16) -> u16
+pub fn running_d(f: Drawing, d: u16) -> u16
     ensures { λ n. ⌜ n ≡ runningD f d ⌝ }
 {
     if f.kind == registers::LINE_KIND {
         return error_after(f, d);
     }
     d
-}
-
-// A step to the next dot, or the figure's end.
-fn figure_moved(r: Registers, k: u32, d: u16) -> Registers
-    ensures { λ q. ⌜ q ≡ figureMoved k d r ⌝ }
-{
-    let f = r.drawing;
-    let dots = registers::dots_of(f) as u64;
-    if k as u64 + 1 < dots {
-        let next = dots::step(direction_at(f, k, d), r.pitch, r.cursor);
-        let running = running_d(f, d);
-        return super::goes_on(
-            r,
-            next,
-            Work::Figure {
-                dot: k + 1,
-                d: running,
-            },
-        );
-    }
-    super::ends(r)
-}
-
-// One cycle of a figure.
-pub fn figure_unit(r: Registers, k: u32, d: u16, mem: &mut [u16]) -> Registers
-    ensures { λ q. ⌜ state q (now (mem .exit)) ≡ figureUnit k d (state r (now (mem .entry))) ⌝ }
-{
-    let ram = r.ram;
-    let op = r.op;
-    dots::cycle(mem, r.cursor, pattern_of(ram[8], ram[9], k), op);
-    figure_moved(r, k, d)
 }

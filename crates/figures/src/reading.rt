@@ -27,7 +27,7 @@ pub fn room(t: Transfer, b: Buffer) -> bool
 }
 
 // The buffer with them.
-fn give(t: Transfer, w: u16, b: Buffer) -> Buffer
+pub fn give(t: Transfer, w: u16, b: Buffer) -> Buffer
     ensures { λ n. ⌜ n ≡ given t w b ⌝ }
 {
     match t {
@@ -38,7 +38,7 @@ fn give(t: Transfer, w: u16, b: Buffer) -> Buffer
 }
 
 // The next item, or the read's end.
-fn read_on(t: Transfer, i: u16, dc: u16) -> Work
+pub fn read_on(t: Transfer, i: u16, dc: u16) -> Work
     ensures { λ n. ⌜ n ≡ readOn t i dc ⌝ }
 {
     if i as u32 + 1 < dc as u32 {

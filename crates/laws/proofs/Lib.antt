@@ -9,3 +9,4 @@ pub mod KeptPortLaws
 pub mod Kept
 pub mod RunLaws
 pub mod OnlyLaws
+pub mod TypedLaws

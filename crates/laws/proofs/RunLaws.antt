@@ -184,7 +184,7 @@ run-from-all (suc f) k s =
 abbrev pub further : ℕ → Outcome → Outcome
 further k o = outcome (record { number = o .ran .number; count = k + o .ran .count; why = o .ran .why; regs = o .ran .regs }) (o .mem)
 
-counted-on : (f k j : ℕ) (s : State) → runFrom f (k + j) s ≡ further k (runFrom f j s)
+pub counted-on : (f k j : ℕ) (s : State) → runFrom f (k + j) s ≡ further k (runFrom f j s)
 unfolding runFrom
 counted-on zero k j s = refl
 counted-on (suc f) k j s = go (eqb (reasonOf (s .regs)) 0) (counted-on f k (j + 1) (unitDone s))

@@ -1,30 +1,31 @@
 -- What the exported functions answer: what the controller answers, in plain numbers; and to what is no register set, "1 register
--- set unsound", with "the set given, 0".
+-- set unsound", with "the set given, 0". What a port answers is in crate bus, `asked`.
 use Prim.Native.Nat.{ℕ}
 use mathlib.Core.Bool.{cond}
 use mathlib.Core.List.{List}
 use Rattle.units.specs.declared.Ran.{Ran}
 use Rattle.units.specs.Run.{Outcome as Run}
-use Rattle.ports.specs.declared.Answer.{Answer}
+use Rattle.sends.specs.declared.Listed.{Listed}
+use Rattle.sends.specs.Sends.{ListOutcome}
 use Rattle.blocks.specs.Answer.{answer}
 use Rattle.sheets.specs.Sheet.{Outcome as Sheet, outcome as sheet}
 use Rattle.plain.specs.declared.PlainRegisters.{PlainRegisters}
-use Rattle.mirror.specs.declared.PlainAnswer.{PlainAnswer}
+use Rattle.bus.specs.declared.PlainAnswer.{PlainAnswer}
 use Rattle.mirror.specs.declared.PlainRan.{PlainRan}
 use Rattle.mirror.specs.declared.PlainReport.{PlainReport}
+use Rattle.mirror.specs.declared.PlainReply.{PlainReply}
+use Rattle.mirror.specs.declared.PlainSent.{PlainSent}
+use Rattle.mirror.specs.declared.PlainTally.{PlainTally}
 use Rattle.mirror.specs.declared.PlainTranslation.{PlainTranslation}
 use Rattle.plain.specs.Form.{plainFormB}
 use Rattle.plain.specs.Mirror.{toPlain}
 
-abbrev pub answerPlain : Answer → PlainAnswer
-answerPlain a = record { number = a .number; value = a .value; regs = toPlain (a .regs) }
+-- a port by reference: the reply and the registers behind the reference together are the answer by value
+abbrev pub replyOf : PlainAnswer → PlainReply
+replyOf d = record { number = d .number; value = d .value }
 
-abbrev pub refusedPlain : PlainRegisters → PlainAnswer
-refusedPlain p = record { number = 1; value = 0; regs = p }
-
--- a port asked with p, where the controller would answer a
-abbrev pub asked : PlainRegisters → Answer → PlainAnswer
-asked p a = cond (plainFormB p) (answerPlain a) (refusedPlain p)
+abbrev pub replied : PlainReply → PlainRegisters → PlainAnswer
+replied q r = record { number = q .number; value = q .value; regs = r }
 
 -- a run's answer, with the memory that it leaves
 pub record Plained : Type 0 where
@@ -48,6 +49,30 @@ reportOf d = record { number = d .number; count = d .count; why = d .why }
 
 abbrev pub report : PlainReport → PlainRegisters → List ℕ → Plained
 report q r m = plained (record { number = q .number; count = q .count; why = q .why; regs = r }) m
+
+-- a list's answer, with the memory that it leaves
+pub record Delivered : Type 0 where
+  pub sent : PlainSent
+  pub mem : List ℕ
+
+abbrev pub delivered : PlainSent → List ℕ → Delivered
+delivered q m = record { sent = q; mem = m }
+
+abbrev pub sentPlain : Listed → PlainSent
+sentPlain d = record { number = d .number; taken = d .taken; units = d .units; regs = toPlain (d .regs) }
+
+-- a list sent with p and the memory m, where the controller would answer o
+abbrev pub sentOn : PlainRegisters → List ℕ → ListOutcome → Delivered
+sentOn p m o =
+    cond (plainFormB p) (delivered (sentPlain (o .list)) (o .mem))
+    (delivered (record { number = 1; taken = 0; units = 0; regs = p }) m)
+
+-- the same list by reference: the tally, the registers behind the reference and the memory together are the answer by value
+abbrev pub tallyOf : PlainSent → PlainTally
+tallyOf d = record { number = d .number; taken = d .taken; units = d .units }
+
+abbrev pub tallied : PlainTally → PlainRegisters → List ℕ → Delivered
+tallied q r m = delivered (record { number = q .number; taken = q .taken; units = q .units; regs = r }) m
 
 -- a translation's answer and the output's content are the translator's
 abbrev pub told : PlainTranslation → List ℕ → Sheet

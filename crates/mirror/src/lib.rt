@@ -1,22 +1,28 @@
 // The controller and the translator for C and Rust on x86-64, over the register set in plain numbers: a function for every entry.
 // A set that is no register set (crate plain, `formed`) is refused with 1.
+use bus::PlainAnswer;
 use plain::PlainRegisters;
+use sends::Listed;
 use units::Ran;
 ghost use mathlib.Core.Path.{_≡_};
 ghost use Rattle.registers.specs.Fresh.{freshSet};
 ghost use Rattle.registers.specs.State.{state};
 ghost use Rattle.units.specs.Run.{runDone};
 ghost use Rattle.ports.specs.Port.{commandWritten, parameterWritten, byteRead, statusRead, penPosted};
+ghost use Rattle.sending.specs.Send.{written};
+ghost use Rattle.sends.specs.Sends.{listSent};
 ghost use Rattle.sheets.specs.Sheet.{translateDef};
 ghost use Rattle.plain.specs.Mirror.{fromPlain, toPlain};
-ghost use Rattle.mirror.specs.Asked.{asked, answerPlain, refusedPlain, plained, ranOn, ranPlain, reportOf, report, told};
+ghost use Rattle.bus.specs.Asked.{asked, readFrom};
+ghost use Rattle.mirror.specs.Asked.{replyOf, replied};
+ghost use Rattle.mirror.specs.Asked.{plained, ranOn, ranPlain, reportOf, report, told};
+ghost use Rattle.mirror.specs.Asked.{delivered, sentOn, sentPlain, tallyOf, tallied};
 
-// What a port answers.
+// What a port answers by reference.
 #[repr(C)]
-pub struct PlainAnswer {
+pub struct PlainReply {
     pub number: u8,
     pub value: u8,
-    pub regs: PlainRegisters,
 }
 
 // What a run answers.
@@ -36,6 +42,23 @@ pub struct PlainReport {
     pub why: u8,
 }
 
+// What a list of entries answers.
+#[repr(C)]
+pub struct PlainSent {
+    pub number: u8,
+    pub taken: u64,
+    pub units: u64,
+    pub regs: PlainRegisters,
+}
+
+// What a list of entries answers by reference.
+#[repr(C)]
+pub struct PlainTally {
+    pub number: u8,
+    pub taken: u64,
+    pub units: u64,
+}
+
 // What a translation answers.
 #[repr(C)]
 pub struct PlainTranslation {
@@ -44,18 +67,7 @@ pub struct PlainTranslation {
     pub second: u32,
 }
 
-// A port's answer, and a run's, in plain numbers.
-fn answer_plain(a: ports::Answer) -> PlainAnswer
-    ensures { λ q. ⌜ q ≡ answerPlain a ⌝ }
-{
-    let regs = plain::convert::to_plain(a.regs);
-    PlainAnswer {
-        number: a.number,
-        value: a.value,
-        regs: regs,
-    }
-}
-
+// A run's answer and a list's, in plain numbers.
 fn ran_plain(d: Ran) -> PlainRan
     ensures { λ q. ⌜ q ≡ ranPlain d ⌝ }
 {
@@ -68,14 +80,15 @@ fn ran_plain(d: Ran) -> PlainRan
     }
 }
 
-// No register set: 1, with the set given.
-fn refuse(p: PlainRegisters) -> PlainAnswer
-    ensures { λ q. ⌜ q ≡ refusedPlain p ⌝ }
+fn sent_plain(d: Listed) -> PlainSent
+    ensures { λ q. ⌜ q ≡ sentPlain d ⌝ }
 {
-    PlainAnswer {
-        number: 1,
-        value: 0,
-        regs: p,
+    let regs = plain::convert::to_plain(d.regs);
+    PlainSent {
+        number: d.number,
+        taken: d.taken,
+        units: d.units,
+        regs: regs,
     }
 }
 
@@ -92,10 +105,7 @@ pub extern "C" fn kranichseil_fresh() -> PlainRegisters
 pub extern "C" fn kranichseil_command(r: PlainRegisters, byte: u8) -> PlainAnswer
     ensures { λ q. ⌜ q ≡ asked r (commandWritten (fromPlain r) byte) ⌝ }
 {
-    if !plain::form::formed(r) {
-        return refuse(r);
-    }
-    answer_plain(ports::write_command(plain::convert::from_plain(r), byte))
+    bus::command(r, byte)
 }
 
 // A byte to the parameter port.
@@ -104,9 +114,9 @@ pub extern "C" fn kranichseil_parameter(r: PlainRegisters, byte: u8) -> PlainAns
     ensures { λ q. ⌜ q ≡ asked r (parameterWritten (fromPlain r) byte) ⌝ }
 {
     if !plain::form::formed(r) {
-        return refuse(r);
+        return bus::refuse(r);
     }
-    answer_plain(ports::write_parameter(plain::convert::from_plain(r), byte))
+    bus::answer_plain(ports::write_parameter(plain::convert::from_plain(r), byte))
 }
 
 // A byte is read.
@@ -115,9 +125,9 @@ pub extern "C" fn kranichseil_read(r: PlainRegisters) -> PlainAnswer
     ensures { λ q. ⌜ q ≡ asked r (byteRead (fromPlain r)) ⌝ }
 {
     if !plain::form::formed(r) {
-        return refuse(r);
+        return bus::refuse(r);
     }
-    answer_plain(ports::read_byte(plain::convert::from_plain(r)))
+    bus::answer_plain(ports::read_byte(plain::convert::from_plain(r)))
 }
 
 // The status is read.
@@ -126,9 +136,9 @@ pub extern "C" fn kranichseil_status(r: PlainRegisters) -> PlainAnswer
     ensures { λ q. ⌜ q ≡ asked r (statusRead (fromPlain r)) ⌝ }
 {
     if !plain::form::formed(r) {
-        return refuse(r);
+        return bus::refuse(r);
     }
-    answer_plain(ports::read_status(plain::convert::from_plain(r)))
+    bus::answer_plain(ports::read_status(plain::convert::from_plain(r)))
 }
 
 // A light-pen address is posted.
@@ -137,9 +147,46 @@ pub extern "C" fn kranichseil_pen(r: PlainRegisters, address: u32) -> PlainAnswe
     ensures { λ q. ⌜ q ≡ asked r (penPosted (fromPlain r) address) ⌝ }
 {
     if !plain::form::formed(r) {
-        return refuse(r);
+        return bus::refuse(r);
     }
-    answer_plain(ports::post_pen(plain::convert::from_plain(r), address))
+    bus::answer_plain(ports::post_pen(plain::convert::from_plain(r), address))
+}
+
+// The registers of a port's answer.
+fn answer_regs(d: PlainAnswer) -> PlainRegisters
+    ensures { λ q. ⌜ q ≡ d .regs ⌝ }
+{
+    d.regs
+}
+
+// A port's answer without its registers.
+fn reply_of(d: PlainAnswer) -> PlainReply
+    ensures { λ q. ⌜ q ≡ replyOf d ⌝ }
+{
+    PlainReply {
+        number: d.number,
+        value: d.value,
+    }
+}
+
+// A byte to a port of the registers where they stand.
+#[no_mangle]
+pub extern "C" fn kranichseil_board_write(r: &mut PlainRegisters, entry: u16) -> PlainReply
+    ensures { λ q. ⌜ replied q (now (r .exit)) ≡ asked (now (r .entry)) (written (fromPlain (now (r .entry))) entry) ⌝ }
+{
+    let done = bus::write_plain(*r, entry);
+    *r = answer_regs(done);
+    reply_of(done)
+}
+
+// A byte from a port of the registers where they stand.
+#[no_mangle]
+pub extern "C" fn kranichseil_board_read(r: &mut PlainRegisters, port: u8) -> PlainReply
+    ensures { λ q. ⌜ replied q (now (r .exit)) ≡ asked (now (r .entry)) (readFrom port (fromPlain (now (r .entry)))) ⌝ }
+{
+    let done = bus::read_plain(*r, port);
+    *r = answer_regs(done);
+    reply_of(done)
 }
 
 // The run, by value.
@@ -190,6 +237,58 @@ pub extern "C" fn kranichseil_board_run(
     let done = kranichseil_run(*r, mem, budget);
     *r = regs_of(done);
     report_of(done)
+}
+
+// A list of entries, by value.
+fn send_plain(p: PlainRegisters, entries: &[u16], mem: &mut [u16]) -> PlainSent
+    ensures { λ q.
+        ⌜ delivered q (now (mem .exit))
+        ≡ sentOn p (now (mem .entry)) (listSent (state (fromPlain p) (now (mem .entry))) (now (entries .entry))) ⌝ }
+{
+    if !plain::form::formed(p) {
+        return PlainSent {
+            number: 1,
+            taken: 0,
+            units: 0,
+            regs: p,
+        };
+    }
+    sent_plain(sends::send_all(plain::convert::from_plain(p), entries, mem))
+}
+
+// The registers of a list's answer.
+fn sent_regs(d: PlainSent) -> PlainRegisters
+    ensures { λ q. ⌜ q ≡ d .regs ⌝ }
+{
+    d.regs
+}
+
+// A list's answer without its registers.
+fn tally_of(d: PlainSent) -> PlainTally
+    ensures { λ q. ⌜ q ≡ tallyOf d ⌝ }
+{
+    PlainTally {
+        number: d.number,
+        taken: d.taken,
+        units: d.units,
+    }
+}
+
+// A list of entries sent to the registers where they stand.
+#[no_mangle]
+pub extern "C" fn kranichseil_board_send(
+    r: &mut PlainRegisters,
+    entries: &[u16],
+    mem: &mut [u16],
+) -> PlainTally
+    ensures { λ q.
+        ⌜ tallied q (now (r .exit)) (now (mem .exit))
+        ≡ sentOn (now (r .entry)) (now (mem .entry))
+        (listSent (state (fromPlain (now (r .entry))) (now (mem .entry))) (now (entries .entry))) ⌝ }
+{
+    let done = send_plain(*r, entries, mem);
+    *r = sent_regs(done);
+    tally_of(done)
 }
 
 // The sheet becomes entries at the output's start, for a plane of P words by H lines and a glyph table.

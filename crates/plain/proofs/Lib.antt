@@ -1,3 +1,4 @@
 pub mod NumberLaws
 pub mod PartLaws
 pub mod MirrorLaws
+pub mod FitLaws

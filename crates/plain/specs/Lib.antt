@@ -2,3 +2,4 @@ pub mod Numbers
 pub mod Parts
 pub mod Mirror
 pub mod Form
+pub mod Fit

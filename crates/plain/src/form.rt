@@ -5,7 +5,7 @@ use super::numbers;
 ghost use mathlib.Core.Path.{_≡_};
 ghost use Rattle.plain.specs.Form.{commandFormB, noFigureB, noCharacterB, noReadingB, workFormB, bitsB, plainFormB};
 
-fn command_formed(n: u8, transfer: u8) -> bool
+pub fn command_formed(n: u8, transfer: u8) -> bool
     ensures { λ t. ⌜ t ≡ commandFormB n transfer ⌝ }
 {
     if (n == numbers::WDAT) | (n == numbers::RDAT) {
@@ -33,7 +33,7 @@ fn no_reading(w: PlainWork) -> bool
     (w.item == 0) & (w.transfer == 0)
 }
 
-fn work_formed(w: PlainWork) -> bool
+pub fn work_formed(w: PlainWork) -> bool
     ensures { λ t. ⌜ t ≡ workFormB w ⌝ }
 {
     let kind = w.kind;
@@ -47,7 +47,7 @@ fn work_formed(w: PlainWork) -> bool
 }
 
 // Each bit is 0 or 1.
-fn bits_formed(p: PlainRegisters) -> bool
+pub fn bits_formed(p: PlainRegisters) -> bool
     ensures { λ t. ⌜ t ≡ bitsB p ⌝ }
 {
     (p.drawing.gd < 2) & (p.video.display < 2) & (p.video.vsync < 2) & (p.pen.set < 2)

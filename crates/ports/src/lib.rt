@@ -3,6 +3,10 @@ use registers::Mode;
 use registers::Registers;
 use registers::Work;
 ghost use mathlib.Core.Path.{_≡_};
+ghost use mathlib.Core.Bool.{_&&_};
+ghost use Prim.Native.Nat.{_+_, _*_};
+ghost use lib.Dec.{eqb, ltb};
+ghost use Rattle.registers.specs.Width.{places};
 ghost use Rattle.registers.specs.Put.{putBuffer};
 ghost use Rattle.registers.specs.Buffer.{popped};
 ghost use Rattle.ports.specs.Port.{
@@ -207,18 +211,31 @@ fn is_read(m: Mode) -> bool
     }
 }
 
-// The status byte.
+// The status byte, of what it tells: the light pen, a figure, how many entries are held, read mode.
+pub fn status_by(pen: bool, drawing: bool, count: u8, reading: bool) -> u8
+    ensures { λ v.
+        ⌜ v
+        ≡ 128 * oneIf pen + 8 * oneIf drawing + 4 * oneIf (eqb count 0) + 2 * oneIf (eqb count places) + oneIf (reading && ltb 0 count) ⌝ }
+{
+    let pen = one_if(pen) as u16;
+    let drawing = one_if(drawing) as u16;
+    let empty = one_if(count == 0) as u16;
+    let full = one_if(count == registers::PLACES) as u16;
+    let ready = one_if(reading & (0 < count)) as u16;
+    (128 * pen + 8 * drawing + 4 * empty + 2 * full + ready) as u8
+}
+
 fn status_of(r: Registers) -> u8
     ensures { λ v. ⌜ v ≡ statusOf r ⌝ }
 {
     let work = r.work;
     let mode = r.mode;
-    let pen = one_if(r.pen.set) as u16;
-    let drawing = one_if(figure_in_progress(work)) as u16;
-    let empty = one_if(r.buffer.count == 0) as u16;
-    let full = one_if(r.buffer.count == registers::PLACES) as u16;
-    let ready = one_if(is_read(mode) & (0 < r.buffer.count)) as u16;
-    (128 * pen + 8 * drawing + 4 * empty + 2 * full + ready) as u8
+    status_by(
+        r.pen.set,
+        figure_in_progress(work),
+        r.buffer.count,
+        is_read(mode),
+    )
 }
 
 // The status is read.

@@ -45,7 +45,7 @@ fn begin(r: Registers, c: Command, byte: u8) -> Registers
 }
 
 // Where its first parameter goes.
-fn first_of(byte: u8) -> u8
+pub fn first_of(byte: u8) -> u8
     ensures { λ n. ⌜ n ≡ firstOf byte ⌝ }
 {
     if (0x70 <= byte) & (byte <= 0x7F) {

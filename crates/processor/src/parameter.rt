@@ -33,7 +33,7 @@ fn dot_mask(n: u8) -> u16
 }
 
 // CURS.
-fn curs_byte(c: Cursor, i: u8, v: u8) -> Cursor
+pub fn curs_byte(c: Cursor, i: u8, v: u8) -> Cursor
     ensures { λ n. ⌜ n ≡ cursBy i v c ⌝ }
 {
     match i {
@@ -73,7 +73,7 @@ fn high_six(n: u16, v: u8) -> u16
 }
 
 // MASK.
-fn mask_byte(c: Cursor, i: u8, v: u8) -> Cursor
+pub fn mask_byte(c: Cursor, i: u8, v: u8) -> Cursor
     ensures { λ n. ⌜ n ≡ maskBy i v c ⌝ }
 {
     match i {
@@ -90,7 +90,7 @@ fn mask_byte(c: Cursor, i: u8, v: u8) -> Cursor
 }
 
 // FIGS.
-fn figs_byte(f: Drawing, i: u8, v: u8) -> Drawing
+pub fn figs_byte(f: Drawing, i: u8, v: u8) -> Drawing
     ensures { λ n. ⌜ n ≡ figsBy i v f ⌝ }
 {
     match i {
@@ -240,7 +240,7 @@ fn count(r: Registers) -> Registers
 }
 
 // Past the sixteenth, parameters are not told apart.
-fn next_of(i: u8) -> u8
+pub fn next_of(i: u8) -> u8
     ensures { λ n. ⌜ n ≡ nextOf i ⌝ }
 {
     if i < 16 {

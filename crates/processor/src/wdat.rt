@@ -9,7 +9,7 @@ ghost use Rattle.registers.specs.State.{state};
 ghost use Rattle.processor.specs.Wdat.{halfB, wdatPattern, wdatProgress, setDone, wdatTaken};
 
 // Whether a byte leaves its set half-sent.
-fn half(t: Transfer, i: u8) -> bool
+pub fn half(t: Transfer, i: u8) -> bool
     ensures { λ b. ⌜ b ≡ halfB t i ⌝ }
 {
     match t {
@@ -20,7 +20,7 @@ fn half(t: Transfer, i: u8) -> bool
 }
 
 // The sixteen bits of a complete set.
-fn pattern_of(t: Transfer, low: u8, v: u8) -> u16
+pub fn pattern_of(t: Transfer, low: u8, v: u8) -> u16
     ensures { λ p. ⌜ p ≡ wdatPattern t low v ⌝ }
 {
     match t {

@@ -1,55 +1,73 @@
--- The buffer: a pop moves each entry one place on; and the test of the first n entries, one entry on: what is left decides.
-use mathlib.Core.Path.{_≡_, refl, sym}
-use mathlib.Core.Bool.{Bool, true, false, _&&_}
+-- The buffer: a pop moves each entry one place on; the test of the first n entries, one entry on: those passed and what is left
+-- decide; and where all sixteen are below a bound, those held are.
+use mathlib.Core.Path.{_≡_, refl, sym, ap, _∙_}
+use mathlib.Core.Bool.{Bool, true, false, _&&_, _||_, and-true, and-assoc}
 use mathlib.Core.List.{List, [], _∷_, _++_}
-use Prim.Native.Nat.{ℕ, suc, _+_, _-_, _≤_, _<_}
+use Prim.Native.Nat.{ℕ, zero, suc, _+_, _-_, _≤_, _<_}
 use native.Mathlib.Omega.{arith}
 use native.Mathlib.Numerals.{add-one}
 use lib.Dec.{ltb, leb}
 use lib.ListN.{length, getD, take, drop, drop-of-length-le}
 use lib.Seq.{drop-cons, drop-length, take-nil}
-use borrow.Author.Tests.{ltb-true, ltb-false, leb-true, leb-false, lt-ltb, le-ltb, lt-leb}
-use Rattle.registers.proofs.BoolLaws.{and-left, and-right, false-true}
+use borrow.Author.Tests.{leb-true, leb-false, lt-leb}
+use Rattle.registers.proofs.BoolLaws.{and-left, and-right}
 use Rattle.registers.specs.declared.Buffer.{Buffer}
 use Rattle.registers.specs.Buffer.{popped}
 use Rattle.registers.specs.Sound.{allBelow}
 
 module _ (b n : ℕ) (e : List ℕ) where
-  pub fit-starts : allBelow b (take n e) ≡ allBelow b (take (n - 0) (drop 0 e))
+  -- what the entries from the i-th on decide
+  abbrev rest : ℕ → Bool
+  rest i = allBelow b (take (n - i) (drop i e))
+
+  pub fit-starts : allBelow b (take n e) ≡ (true && rest 0)
   fit-starts = let z : n - 0 ≡ n = omega arith in rw z
 
-  pub fit-ends : (i : ℕ) → length e ≤ i → allBelow b (take (n - i) (drop i e)) ≡ true
+  pub fit-ends : (t : Bool) (i : ℕ) → length e ≤ i → (t && rest i) ≡ t
   unfolding allBelow
-  fit-ends i h = rw (drop-of-length-le e h, take-nil (n - i))
+  fit-ends t i h = rw (drop-of-length-le e h, take-nil (n - i)) (and-true t)
 
-  pub fit-fails : (i : ℕ) → i < length e → (ltb i n && leb b (getD e i 0)) ≡ true → allBelow b (take (n - i) (drop i e)) ≡ false
+  -- the i-th is past the first n, or below
+  one-on : (i : ℕ) → i < length e → rest i ≡ ((leb n i || ltb (getD e i 0) b) && rest (i + 1))
   unfolding allBelow
-  fit-fails i h p =
-      let held : i < n = ltb-true i n (and-left (ltb i n) (leb b (getD e i 0)) p) in
-      let large : b ≤ getD e i 0 = leb-true b (getD e i 0) (and-right (ltb i n) (leb b (getD e i 0)) p) in
-      let m : n - i ≡ suc (n - (i + 1)) = omega arith in
-      rw (m, drop-cons e i 0 h, le-ltb (getD e i 0) b large)
-
-  below-one : (i : ℕ) → i < length e → i < n → getD e i 0 < b
-      → allBelow b (take (n - i) (drop i e)) ≡ allBelow b (take (n - (i + 1)) (drop (i + 1) e))
-  unfolding allBelow
-  below-one i h held small =
-      let m : n - i ≡ suc (n - (i + 1)) = omega arith in
-      rw (m, add-one, drop-cons e i 0 h, lt-ltb (getD e i 0) b small)
-
-  pub fit-goes-on : (i : ℕ) → i < length e → (ltb i n && leb b (getD e i 0)) ≡ false
-      → allBelow b (take (n - i) (drop i e)) ≡ allBelow b (take (n - (i + 1)) (drop (i + 1) e))
-  fit-goes-on i h p = go (ltb i n) (leb b (getD e i 0)) refl refl p
+  one-on i h = go (leb n i) refl
     where
-      go : (t u : Bool) → ltb i n ≡ t → leb b (getD e i 0) ≡ u → (t && u) ≡ false
-          → allBelow b (take (n - i) (drop i e)) ≡ allBelow b (take (n - (i + 1)) (drop (i + 1) e))
-      go true true f g q = absurd (false-true (sym q))
-      go true false f g q = below-one i h (ltb-true i n f) (leb-false b (getD e i 0) g)
-      go false u f g q =
-          let past : n ≤ i = ltb-false i n f in
+      go : (t : Bool) → leb n i ≡ t → rest i ≡ ((t || ltb (getD e i 0) b) && rest (i + 1))
+      go true p =
+          let past : n ≤ i = leb-true n i p in
           let m : n - i ≡ 0 = omega arith in
           let m′ : n - (i + 1) ≡ 0 = omega arith in
           rw (m, m′)
+      go false p =
+          let held : i < n = leb-false n i p in
+          let m : n - i ≡ suc (n - (i + 1)) = omega arith in
+          rw (m, add-one, drop-cons e i 0 h)
+
+  pub fit-goes-on : (t : Bool) (i : ℕ) → i < length e
+      → (t && rest i) ≡ ((t && (leb n i || ltb (getD e i 0) b)) && rest (i + 1))
+  fit-goes-on t i h = ap (λ (x : Bool). t && x) (one-on i h) ∙ sym (and-assoc t (leb n i || ltb (getD e i 0) b) (rest (i + 1)))
+
+-- what is below for the first n is below for fewer
+below-fewer : (b m n : ℕ) (e : List ℕ) → m ≤ n → allBelow b (take n e) ≡ true → allBelow b (take m e) ≡ true
+unfolding allBelow
+below-fewer b zero n e h p = refl
+below-fewer b (suc m) zero e h p = absurd (omega arith)
+below-fewer b (suc m) (suc n) [] h p = refl
+below-fewer b (suc m) (suc n) (x ∷ e) h p =
+    rw (
+      and-left (ltb x b) (allBelow b (take n e)) p,
+      below-fewer b m n e (omega arith) (and-right (ltb x b) (allBelow b (take n e)) p),
+    )
+
+-- so at most sixteen that are held need no test of their own where all sixteen are below
+pub whole-enough : (b n : ℕ) (e : List ℕ)
+    → (leb n 16 && allBelow b (take 16 e)) ≡ ((leb n 16 && allBelow b (take 16 e)) && allBelow b (take n e))
+whole-enough b n e = go (leb n 16) (allBelow b (take 16 e)) refl refl
+  where
+    go : (t u : Bool) → leb n 16 ≡ t → allBelow b (take 16 e) ≡ u → (t && u) ≡ ((t && u) && allBelow b (take n e))
+    go true true p q = sym (below-fewer b n 16 e (leb-true n 16 p) q)
+    go true false p q = refl
+    go false u p q = refl
 
 -- fifteen places, each given the entry behind it
 abbrev pub shifted : List ℕ → List ℕ

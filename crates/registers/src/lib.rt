@@ -10,7 +10,6 @@ ghost use Rattle.registers.specs.Sound.{
   allBelow,
   cursorB,
   drawingB,
-  markB,
   bufferB,
   placeB,
   writeB,
@@ -42,7 +41,7 @@ pub const COMMAND_MARK: u16 = 256;
 const ENTRY_END: u16 = 512;
 
 // At most so many parameters of a command are told apart.
-const PARAMETERS: u8 = 16;
+pub const PARAMETERS: u8 = 16;
 
 // Which way the buffer carries bytes.
 pub enum Mode {
@@ -235,13 +234,13 @@ pub fn columns_of(f: Drawing, zoom: u8) -> u32
     f.d as u32 * factor_of(zoom)
 }
 
-fn cursor_fits(c: Cursor) -> bool
+pub fn cursor_fits(c: Cursor) -> bool
     ensures { λ t. ⌜ t ≡ cursorB c ⌝ }
 {
     c.ead < dots::ADDRESSES
 }
 
-fn drawing_fits(f: Drawing) -> bool
+pub fn drawing_fits(f: Drawing) -> bool
     ensures { λ t. ⌜ t ≡ drawingB f ⌝ }
 {
     (f.kind < KINDS)
@@ -253,41 +252,32 @@ fn drawing_fits(f: Drawing) -> bool
         & (f.dm < FOURTEEN_BITS)
 }
 
-// The first n of the entries are below a bound.
-fn entries_fit(entries: [u16; 16], below: u16, n: u8) -> bool
+// The first n of the entries are below a bound. No early way out, so that the entries are compared side by side.
+fn entries_fit(entries: [u16; 16], below: u16, n: u16) -> bool
     ensures { λ t. ⌜ t ≡ allBelow below (take n entries) ⌝ }
 {
-    let held = n as usize;
-    let mut i: usize = 0;
+    let mut fit = true;
+    let mut i: u16 = 0;
     while i < 16 {
-        if (i < held) & (below <= entries[i]) {
-            return false;
-        }
+        fit = fit & ((n <= i) | (entries[i as usize] < below));
         i += 1;
     }
-    true
+    fit
 }
 
-// One more than the greatest entry that may be held.
-fn mark_of(m: Mode) -> u16
-    ensures { λ n. ⌜ n ≡ markB m ⌝ }
-{
-    match m {
-        Mode::Write => ENTRY_END,
-        Mode::Read => COMMAND_MARK,
-    }
-}
-
-fn buffer_fits(m: Mode, b: Buffer) -> bool
+// In write mode a held entry has the bound of every other.
+pub fn buffer_fits(m: Mode, b: Buffer) -> bool
     ensures { λ t. ⌜ t ≡ bufferB m b ⌝ }
 {
     let entries = b.entries;
-    let whole = entries_fit(entries, ENTRY_END, PLACES);
-    let held = entries_fit(entries, mark_of(m), b.count);
-    (b.count <= PLACES) & whole & held
+    let whole = (b.count <= PLACES) & entries_fit(entries, ENTRY_END, PLACES as u16);
+    match m {
+        Mode::Write => whole,
+        Mode::Read => whole & entries_fit(entries, COMMAND_MARK, b.count as u16),
+    }
 }
 
-fn place_fits(f: Drawing, zoom: u8, w: Work) -> bool
+pub fn place_fits(f: Drawing, zoom: u8, w: Work) -> bool
     ensures { λ t. ⌜ t ≡ placeB f zoom w ⌝ }
 {
     match w {
@@ -301,7 +291,7 @@ fn place_fits(f: Drawing, zoom: u8, w: Work) -> bool
 }
 
 // A figure in write mode, a read in read mode.
-fn work_fits(m: Mode, w: Work) -> bool
+pub fn work_fits(m: Mode, w: Work) -> bool
     ensures { λ t. ⌜ t ≡ workB m w ⌝ }
 {
     match w {

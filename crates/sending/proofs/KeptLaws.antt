@@ -19,7 +19,7 @@ written-kept r l e =
     (λ t. command-written-kept r l (e % 256) (omega arith))
 
 module _ (n : ℕ) where
-  sent-kept : (s : State) → Whole n s → (e : ℕ) → Whole n (left (sent s e))
+  pub sent-kept : (s : State) → Whole n s → (e : ℕ) → Whole n (left (sent s e))
   unfolding sent
   sent-kept s w e =
       run-kept n fullBudget (state (written (s .regs) e .regs) (s .mem))

@@ -13,7 +13,7 @@ unfolding unitsDone
 units-last zero s = refl
 units-last (suc n) s = units-last n (unitDone s)
 
-goes-on : (f k : ℕ) (s : State) → reasonOf (s .regs) ≡ 0 → runFrom (suc f) k s ≡ runFrom f (k + 1) (unitDone s)
+pub goes-on : (f k : ℕ) (s : State) → reasonOf (s .regs) ≡ 0 → runFrom (suc f) k s ≡ runFrom f (k + 1) (unitDone s)
 unfolding runFrom
 goes-on f k s e = rw e
 

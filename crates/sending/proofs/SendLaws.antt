@@ -19,10 +19,11 @@ use Rattle.registers.specs.Put.{putBuffer}
 use Rattle.registers.specs.State.{State, state}
 use Rattle.processor.specs.Entry.{entryTaken}
 use Rattle.units.specs.Unit.{fetched, fetchBy, unitBy, unitDone}
-use Rattle.units.specs.Run.{reasonOf, unitsDone, stopped, lengthB, runDone}
+use Rattle.units.specs.Run.{Outcome, reasonOf, unitsDone, stopped, runFrom, lengthB, runDone}
 use Rattle.ports.specs.Port.{granted, queued, queuedOr3, commandIn, parameterIn, commandWritten, parameterWritten}
 use Rattle.sending.specs.Send.{written, fullBudget, Reply, sent, left, sentAll, AllAccepted, unitsOf}
-use Rattle.sending.proofs.RunLaws.{runs}
+use Rattle.laws.proofs.RunLaws.{further, counted-on, run-granted}
+use Rattle.sending.proofs.RunLaws.{goes-on, runs}
 use Rattle.sending.proofs.WaitLaws.{Waiting, waiting-reason, takenBy, waiting-sound, queued-sound, units-lawful}
 
 -- ---- lists of entries
@@ -112,6 +113,18 @@ module _ (r : Registers) (m : List ℕ) (e : ℕ) (v : Waiting r) (small : e < 5
       ∙ ap₂ (λ (x : Mode) (k : ℕ). fetchBy x k loaded) (v .mode) (pushed-one (r .buffer) e (v .empty))
       ∙ ap₂ (λ (x : ℕ) (b : Buffer). entryTaken x (state (putBuffer r b) m))
       (oldest-pushed (r .buffer) e (v .empty) (omega (arith, v .lawful .buffer .long))) (popped-pushed (r .buffer) e (v .empty))
+
+  -- one unit takes it, and the rest of the run is that of what it began
+  pub taken-at-once : lengthB (length m) ≡ true
+      → sent (state r m) e ≡ record { port = granted 0 (queued r e); run = further 1 (runFrom 4294967294 0 (takenBy e r m)) }
+  unfolding sent
+  taken-at-once long =
+      rw is-written
+      (ap (λ (o : Outcome). record { port = granted 0 (queued r e); run = o })
+      (run-granted fullBudget loaded (queued-sound v e small) long
+      ∙ goes-on 4294967294 0 loaded loaded-busy
+      ∙ ap (runFrom 4294967294 1) loaded-unit
+      ∙ counted-on 4294967294 1 0 (takenBy e r m)))
 
   abbrev reached : ℕ → State
   reached n = unitsDone n (takenBy e r m)

@@ -20,7 +20,7 @@ pub record Ready (r : Registers) : Type 0 where
   pub empty : r .buffer .count ≡ 0
   pub idle : r .work ≡ Idle
 
--- an entry goes to its port: "16-bit entries, commands are the byte + 256"; bits past the ninth are not looked at
+-- an entry goes to its port: "16-bit entries, commands are the byte + 256"; of one past nine bits the low byte goes to the command port
 abbrev pub written : Registers → ℕ → Answer
 written r e = cond (ltb e 256) (parameterWritten r e) (commandWritten r (e % 256))
 

@@ -1,3 +1,4 @@
 pub mod SendLaws
+pub mod QuickLaws
 pub mod EndLaws
 pub mod FinishLaws

@@ -1,73 +1,180 @@
--- Entries sent one at a time: the port of one, its run, and the loop. What is left to send from here makes what all of them make
--- from the start, and the units reported so far are what the rest lacks of the whole. True because `sentAll` and `unitsOf` take
--- the first entry of a list first.
-use mathlib.Core.Path.{_≡_, sym, ap, _∙_}
+-- Entries sent one at a time: the port of one, its run, and the list. What is left to send from here, with what was taken and the units
+-- so far, is what was to send from the start. True because `takenOf`, `numberAt`, `sentAll` and `unitsOf` take the first entry of a
+-- list first.
+use mathlib.Core.Path.{_≡_, refl, sym, ap, ap₂, _∙_}
+use mathlib.Core.Bool.{Bool, true, false}
 use mathlib.Core.List.{List, [], _∷_}
 use Prim.Native.Nat.{ℕ, suc, _+_, _%_, min, _≤_, _<_}
 use native.Mathlib.Omega.{arith}
+use lib.Dec.{eqb, leb}
 use lib.ListN.{length, getD, take, drop, length-take, drop-of-length-le}
-use lib.Seq.{drop-cons, getD-take}
-use borrow.Author.Tests.{lt-ltb, le-ltb}
+use lib.Seq.{drop-cons, take-all, take-length}
+use borrow.Author.Tests.{lt-ltb, le-ltb, eqb-true, eq-eqb, ne-eqb, leb-true, leb-false}
 use Rattle.registers.specs.declared.Registers.{Registers}
+use Rattle.registers.specs.Sound.{soundB}
 use Rattle.registers.specs.State.{State, state}
 use Rattle.ports.specs.declared.Answer.{Answer}
 use Rattle.ports.specs.Port.{commandWritten, parameterWritten}
-use Rattle.units.specs.declared.Ran.{Ran}
-use Rattle.units.specs.Run.{Outcome, runDone}
-use Rattle.units.specs.Run.{outcome as ranOutcome}
-use Rattle.sending.specs.Send.{written, sent, left, sentAll, unitsOf}
-use Rattle.sends.specs.Sends.{outcome, listSent}
+use Rattle.units.specs.Run.{Outcome, lengthB, runDone}
+use Rattle.laws.proofs.BranchLaws.{cases}
+use Rattle.sending.specs.Send.{written, sent, left, sentAll, unitsOf, AllAccepted}
+use Rattle.sends.specs.Sends.{ListOutcome, listed, takenOf, numberAt, takenFrom, listTaken}
+use Rattle.sends.specs.Sends.{listRefused, mostListed, listSent}
 
--- ---- one entry
+-- ---- the port
 module _ (r : Registers) (e : ℕ) where
-  pub by-parameter : {a : Answer} → e < 256 → a ≡ parameterWritten r (e % 256) → a .regs ≡ written r e .regs
+  pub by-parameter : {a : Answer} → e < 256 → a ≡ parameterWritten r (e % 256) → a ≡ written r e
   by-parameter h q = let f : e % 256 ≡ e = omega arith in rw (q, f, lt-ltb e 256 h)
 
-  pub by-command : {a : Answer} → 256 ≤ e → a ≡ commandWritten r (e % 256) → a .regs ≡ written r e .regs
+  pub by-command : {a : Answer} → 256 ≤ e → a ≡ commandWritten r (e % 256) → a ≡ written r e
   by-command h q = rw (q, le-ltb e 256 h)
 
-  pub by-run : (m : List ℕ) {p : Registers} {o : Outcome} → p ≡ written r e .regs → o ≡ runDone 4294967295 (state p m)
-      → o ≡ sent (state r m) e .run
-  unfolding sent
-  by-run m q k = rw q at k
+-- ---- a list, behind k entries that were taken with u units
+abbrev pub wentOn : ℕ → ℕ → State → List ℕ → ListOutcome
+wentOn k u s l =
+    listed
+    (record {
+      number = numberAt s l;
+      taken = k + takenOf s l;
+      units = u + unitsOf s (takenFrom s l);
+      regs = sentAll s (takenFrom s l) .regs;
+    })
+    (sentAll s (takenFrom s l) .mem)
 
--- ---- the loop over the first n of the entries, or all where they are fewer
-module _ (entries : List ℕ) (n last : ℕ) (many : last ≡ min n (length entries)) where
-  abbrev all : List ℕ
-  all = take n entries
+-- it ended: with this number, k entries taken, u units
+abbrev pub ended : ℕ → ℕ → ℕ → State → ListOutcome
+ended n k u s = listed (record { number = n; taken = k; units = u; regs = s .regs }) (s .mem)
 
-  how-many : length all ≡ last
-  how-many = length-take n entries ∙ sym many
+pub starts : (s : State) (l : List ℕ) → listTaken s l ≡ wentOn 0 0 s l
+starts s l =
+    let e : takenOf s l ≡ 0 + takenOf s l = omega arith in
+    let f : unitsOf s (takenFrom s l) ≡ 0 + unitsOf s (takenFrom s l) = omega arith in
+    rw (← e, ← f)
 
-  module _ (k : ℕ) (s : State) (more : k < last) {q : Ran} {m : List ℕ}
-      (ran : ranOutcome q m ≡ sent s (getD entries k 0) .run) where
-    first : drop k all ≡ getD entries k 0 ∷ drop (k + 1) all
-    first =
-        let e : suc k ≡ k + 1 = omega arith in
-        drop-cons all k 0 (omega (arith, how-many)) ∙ rw (getD-take n entries k 0 (omega arith), e)
+pub none-left : (k u : ℕ) (s : State) → wentOn k u s [] ≡ ended 0 k u s
+unfolding takenOf numberAt sentAll unitsOf
+none-left k u s = let e : k + 0 ≡ k = omega arith in let f : u + 0 ≡ u = omega arith in rw (e, f)
 
-    after : left (sent s (getD entries k 0)) ≡ state (q .regs) m
-    after = ap (λ (o : Outcome). state (o .ran .regs) (o .mem)) (sym ran)
+module _ (k u : ℕ) (s : State) (e : ℕ) (l : List ℕ) where
+  pub one-refused : (sent s e .port .number ≡ 0 → ⊥) → wentOn k u s (e ∷ l) ≡ ended (sent s e .port .number) k u s
+  unfolding takenOf numberAt sentAll unitsOf
+  one-refused z =
+      let f : k + 0 ≡ k = omega arith in let g : u + 0 ≡ u = omega arith in
+      rw (ne-eqb (sent s e .port .number) 0 z, f, g)
 
-    pub rest-left : sentAll s (drop k all) ≡ sentAll (state (q .regs) m) (drop (k + 1) all)
-    unfolding sentAll
-    rest-left = rw first (ap (λ (x : State). sentAll x (drop (k + 1) all)) after)
+  pub one-taken : sent s e .port .number ≡ 0
+      → wentOn k u s (e ∷ l) ≡ wentOn (k + 1) (u + sent s e .run .ran .count) (left (sent s e)) l
+  unfolding takenOf numberAt sentAll unitsOf
+  one-taken z =
+      let t = left (sent s e) in
+      let f : k + suc (takenOf t l) ≡ k + 1 + takenOf t l = omega arith in
+      let g : u + (sent s e .run .ran .count + unitsOf t (takenFrom t l)) ≡ u + sent s e .run .ran .count + unitsOf t (takenFrom t l) =
+      omega arith in
+      rw (eq-eqb (sent s e .port .number) 0 z, f, g)
 
-    pub rest-units : (u : ℕ) → u + unitsOf s (drop k all) ≡ u + q .count + unitsOf (state (q .regs) m) (drop (k + 1) all)
-    unfolding unitsOf
-    rest-units u =
-        let c : sent s (getD entries k 0) .run .ran .count ≡ q .count = ap (λ (o : Outcome). o .ran .count) (sym ran) in
-        let d : unitsOf (left (sent s (getD entries k 0))) (drop (k + 1) all) ≡ unitsOf (state (q .regs) m) (drop (k + 1) all) =
-        ap (λ (x : State). unitsOf x (drop (k + 1) all)) after in
-        rw first (rw (c, d) (omega arith))
+-- ---- one entry: the list of it alone
+module _ (s : State) (e : ℕ) where
+  abbrev port : ℕ
+  port = sent s e .port .number
 
-  -- all are sent: what the loop holds is the definition
-  pub all-sent : (s₀ s : State) (u k : ℕ) → last ≤ k → sentAll s₀ all ≡ sentAll s (drop k all)
-      → unitsOf s₀ all ≡ u + unitsOf s (drop k all) → outcome (record { regs = s .regs; units = u }) (s .mem) ≡ listSent s₀ all
-  unfolding listSent sentAll unitsOf
-  all-sent s₀ s u k h e f =
-      let few : length all ≤ k = omega (arith, how-many) in
-      let z : drop k all ≡ [] = drop-of-length-le all few in
-      let g : sentAll s₀ all ≡ s = e ∙ ap (sentAll s) z in
-      let w : unitsOf s₀ all ≡ u = f ∙ ap (λ (l : List ℕ). u + unitsOf s l) z ∙ omega arith in
-      rw (g, w)
+  abbrev count : ℕ
+  count = sent s e .run .ran .count
+
+  pub alone-number : numberAt s (e ∷ []) ≡ port
+  unfolding numberAt
+  alone-number = cases (λ (n : ℕ). n ≡ port) (eqb port 0) (λ t. sym (eqb-true port 0 t)) (λ t. refl)
+
+  pub alone-refused : (port ≡ 0 → ⊥) → listTaken s (e ∷ []) ≡ ended port 0 0 s
+  alone-refused z = starts s (e ∷ []) ∙ one-refused 0 0 s e [] z
+
+  pub alone-taken : port ≡ 0 → listTaken s (e ∷ []) ≡ ended 0 1 count (left (sent s e))
+  alone-taken z =
+      let f : 0 + count ≡ count = omega arith in
+      starts s (e ∷ []) ∙ one-taken 0 0 s e [] z ∙ none-left 1 (0 + count) (left (sent s e))
+      ∙ ap (λ (u : ℕ). ended 0 1 u (left (sent s e))) f
+
+  -- `send_one`, from what the port answers and the run leaves
+  module _ {a : Answer} (at : a ≡ written (s .regs) e) where
+    pub sent-not : (a .number ≡ 0 → ⊥) → ended (a .number) 0 0 s ≡ listTaken s (e ∷ [])
+    unfolding sent
+    sent-not z = sym (alone-refused (λ y. z (ap (λ (x : Answer). x .number) at ∙ y)) ∙ rw at)
+
+    pub sent-one : {o : Outcome} → a .number ≡ 0 → o ≡ runDone 4294967295 (state (a .regs) (s .mem))
+        → ended 0 1 (o .ran .count) (state (o .ran .regs) (o .mem)) ≡ listTaken s (e ∷ [])
+    unfolding sent
+    sent-one {o} z ran =
+        ap (λ (x : Outcome). ended 0 1 (x .ran .count) (state (x .ran .regs) (x .mem)))
+        (ran ∙ ap (λ (x : Answer). runDone 4294967295 (state (x .regs) (s .mem))) at)
+        ∙ sym (alone-taken (sym (ap (λ (x : Answer). x .number) at) ∙ z))
+
+  -- a list that goes no further, as its first entry is refused
+  pub goes-no-further : (k u : ℕ) (l : List ℕ) → (numberAt s (e ∷ []) ≡ 0 → ⊥)
+      → ended (numberAt s (e ∷ [])) k u (state (s .regs) (listTaken s (e ∷ []) .mem)) ≡ wentOn k u s (e ∷ l)
+  goes-no-further k u l z =
+      let y : port ≡ 0 → ⊥ = λ x. z (alone-number ∙ x) in
+      ap₂ (λ (n : ℕ) (m : List ℕ). ended n k u (state (s .regs) m)) alone-number (ap (λ (o : ListOutcome). o .mem) (alone-refused y))
+      ∙ sym (one-refused k u s e l y)
+
+-- ---- the loop over all entries
+module _ (entries : List ℕ) where
+  pub next-entry : (k : ℕ) → k < length entries → drop k entries ≡ getD entries k 0 ∷ drop (k + 1) entries
+  next-entry k h = let e : suc k ≡ k + 1 = omega arith in drop-cons entries k 0 h ∙ rw e
+
+  pub all-taken : (k u : ℕ) (s : State) → length entries ≤ k → wentOn k u s (drop k entries) ≡ ended 0 k u s
+  all-taken k u s h = ap (wentOn k u s) (drop-of-length-le entries h) ∙ none-left k u s
+
+-- so many are looked at
+pub looked-at : (n : ℕ) (l : List ℕ) → take (min n (length l)) l ≡ take n l
+looked-at n l = go (leb (length l) n) refl
+  where
+    go : (t : Bool) → leb (length l) n ≡ t → take (min n (length l)) l ≡ take n l
+    go true h =
+        let short : length l ≤ n = leb-true (length l) n h in
+        let e : min n (length l) ≡ length l = omega arith in
+        ap (λ (k : ℕ). take k l) e ∙ take-length l ∙ sym (take-all n l short)
+    go false h =
+        let long : n < length l = leb-false (length l) n h in
+        let e : min n (length l) ≡ n = omega arith in
+        ap (λ (k : ℕ). take k l) e
+
+module _ (l : List ℕ) {n : ℕ} (is : n ≡ min mostListed (length l)) where
+  pub looked-long : n ≡ length (take n l)
+  looked-long = sym (length-take n l ∙ omega arith)
+
+  pub looked-few : length (take n l) ≤ mostListed
+  looked-few = omega (arith, looked-long)
+
+-- `send_all`, each way out
+module _ (s : State) (l : List ℕ) where
+  pub way-unsound : soundB (s .regs) ≡ false → listRefused 1 s ≡ listSent s l
+  unfolding listSent
+  way-unsound e = rw e
+
+  pub way-mislong : soundB (s .regs) ≡ true → lengthB (length (s .mem)) ≡ false → listRefused 2 s ≡ listSent s l
+  unfolding listSent
+  way-mislong e f = rw (e, f)
+
+  pub way-sent : {o : ListOutcome} {n : ℕ} → soundB (s .regs) ≡ true → lengthB (length (s .mem)) ≡ true → n ≡ min mostListed (length l)
+      → o ≡ listTaken s (take n l) → o ≡ listSent s l
+  unfolding listSent
+  way-sent e f h o = o ∙ rw (e, f) (ap (listTaken s) (ap (λ (k : ℕ). take k l) h ∙ looked-at mostListed l))
+
+-- ---- entries that are all accepted are all taken, and none is refused
+pub all-accepted : (s : State) (l : List ℕ) → AllAccepted s l → (takenOf s l ≡ length l) × (numberAt s l ≡ 0)
+unfolding takenOf numberAt
+all-accepted s [] a = (refl, refl)
+all-accepted s (e ∷ l) a =
+    let rest = all-accepted (left (sent s e)) l (a .1) in
+    rw (eq-eqb (sent s e .port .number) 0 (a .0 .port)) (ap suc (rest .0), rest .1)
+
+pub accepted-listed : (s : State) (l : List ℕ) → soundB (s .regs) ≡ true → lengthB (length (s .mem)) ≡ true → length l ≤ mostListed
+    → AllAccepted s l → listSent s l ≡ ended 0 (length l) (unitsOf s l) (sentAll s l)
+unfolding listSent
+accepted-listed s l sound long few a =
+    let all = all-accepted s l a in
+    let whole : takenFrom s l ≡ l = ap (λ (n : ℕ). take n l) (all .0) ∙ take-length l in
+    rw (sound, long)
+    (ap (listTaken s) (take-all mostListed l few)
+    ∙ ap₂ (λ (n k : ℕ). listed (record { number = n; taken = k; units = unitsOf s (takenFrom s l); regs = sentAll s (takenFrom s l) .regs })
+    (sentAll s (takenFrom s l) .mem)) (all .1) (all .0)
+    ∙ ap (λ (x : List ℕ). ended 0 (length l) (unitsOf s x) (sentAll s x)) whole)

@@ -1,13 +1,16 @@
--- 01, demand 3's sending as a function answers it: the registers, the units and the memory after a list of entries; and before it
--- what was waiting, finished.
+-- 01, demand 3's sending as a function answers it: what was waiting, finished; and a list of entries: how many of them were taken, the
+-- units, the registers and the memory.
 use Prim.Native.Nat.{ℕ, zero, suc, _+_}
-use mathlib.Core.Bool.{cond}
-use mathlib.Core.List.{List}
+use mathlib.Core.Bool.{Bool, true, false, cond}
+use mathlib.Core.List.{List, [], _∷_}
 use lib.Dec.{eqb}
+use lib.ListN.{length, take}
+use Rattle.registers.specs.Sound.{soundB}
 use Rattle.registers.specs.State.{State, state}
-use Rattle.units.specs.Run.{runDone}
-use Rattle.sending.specs.Send.{fullBudget, sentAll, unitsOf}
+use Rattle.units.specs.Run.{lengthB, runDone}
+use Rattle.sending.specs.Send.{fullBudget, sent, left, sentAll, unitsOf}
 use Rattle.sends.specs.declared.Sent.{Sent}
+use Rattle.sends.specs.declared.Listed.{Listed}
 
 -- an answer, with what the lent memory then holds
 pub record Outcome : Type 0 where
@@ -20,10 +23,6 @@ outcome q m = record { sent = q; mem = m }
 -- the controller and its memory then
 abbrev pub leftAt : Outcome → State
 leftAt o = state (o .sent .regs) (o .mem)
-
--- the entries of a list in order, with the units of all their runs
-unfoldable pub listSent : State → List ℕ → Outcome
-listSent s l = outcome (record { regs = sentAll s l .regs; units = unitsOf s l }) (sentAll s l .mem)
 
 -- nothing is done
 abbrev pub unmoved : State → Outcome
@@ -46,3 +45,55 @@ runsDone (suc n) s =
 -- sixteen entries can wait that start one each: 272 budgets are more than all that takes (`finishes` of FinishLaws).
 unfoldable pub finished : State → Outcome
 finished s = runsDone 272 s
+
+-- ---- a list of entries
+-- what a list is answered with, and what the lent memory then holds
+pub record ListOutcome : Type 0 where
+  pub list : Listed
+  pub mem : List ℕ
+
+abbrev pub listed : Listed → List ℕ → ListOutcome
+listed q m = record { list = q; mem = m }
+
+-- how many entries are taken: those before the first that its port refuses
+unfoldable pub takenOf : State → List ℕ → ℕ
+takenOf s [] = 0
+takenOf s (e ∷ l) = cond (eqb (sent s e .port .number) 0) (suc (takenOf (left (sent s e)) l)) 0
+
+-- the number with which its port refuses that one; 0 if none is refused
+unfoldable pub numberAt : State → List ℕ → ℕ
+numberAt s [] = 0
+numberAt s (e ∷ l) = cond (eqb (sent s e .port .number) 0) (numberAt (left (sent s e)) l) (sent s e .port .number)
+
+-- the entries that are taken
+abbrev pub takenFrom : State → List ℕ → List ℕ
+takenFrom s l = take (takenOf s l) l
+
+-- "the entries in order, each with its run until idle, up to the first that its port refuses"
+abbrev pub listTaken : State → List ℕ → ListOutcome
+listTaken s l =
+    listed
+    (record {
+      number = numberAt s l;
+      taken = takenOf s l;
+      units = unitsOf s (takenFrom s l);
+      regs = sentAll s (takenFrom s l) .regs;
+    })
+    (sentAll s (takenFrom s l) .mem)
+
+-- a refusal returns the set given, and nothing is taken; memory is unaltered
+abbrev pub listRefused : ℕ → State → ListOutcome
+listRefused n s = listed (record { number = n; taken = 0; units = 0; regs = s .regs }) (s .mem)
+
+-- "1 register set unsound", "2 memory length wrong", in that order, as the run's
+abbrev pub listBy : Bool → Bool → State → List ℕ → ListOutcome
+listBy false long s l = listRefused 1 s
+listBy true false s l = listRefused 2 s
+listBy true true s l = listTaken s l
+
+-- At most 4,294,967,295 entries of a list are looked at, so that the units of their runs fit 64 bits.
+abbrev pub mostListed : ℕ
+mostListed = 4294967295
+
+unfoldable pub listSent : State → List ℕ → ListOutcome
+listSent s l = listBy (soundB (s .regs)) (lengthB (length (s .mem))) s (take mostListed l)

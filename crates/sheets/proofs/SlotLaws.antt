@@ -80,6 +80,14 @@ unfolding sized
 sized-append [] b = omega arith
 sized-append (r ∷ a) b = omega (arith, sized-append a b)
 
+-- so many slots take at most 21 times as many entries
+pub figures-few : (s : List ℕ) (m : Room) (n k : ℕ) → sized (figuresFrom s m n k) ≤ 21 * n
+unfolding figuresFrom sized
+figures-few s m zero k = omega arith
+figures-few s m (suc n) k =
+    rw (sized-append (slotFigures s m k) (figuresFrom s m n (k + 1)))
+    (omega (arith, slot-small s m k refl, figures-few s m n (k + 1)))
+
 pub translated-append : (t : List ℕ) (p : ℕ) (a b : List Record) → translated t p (a ++ b) ≡ translated t p a ++ translated t p b
 unfolding translated
 translated-append t p [] b = refl

@@ -1,4 +1,5 @@
-// One unit, and the run with a budget.
+// The run with a budget.
+use bursts::Brush;
 use registers::Buffer;
 use registers::Mode;
 use registers::Registers;
@@ -6,7 +7,7 @@ use registers::Work;
 ghost use mathlib.Core.Path.{_≡_};
 ghost use Rattle.registers.specs.Put.{putBuffer};
 ghost use Rattle.registers.specs.State.{state};
-ghost use Rattle.units.specs.Unit.{fetched, fetchBy, unitDone};
+ghost use Rattle.units.specs.Unit.{fetched, fetchBy};
 ghost use Rattle.units.specs.Run.{waiting, reasonOf, lengthB, outcome, runFrom, runDone};
 
 // What a run answers: a number of refusal, the units done, why it stopped, and the registers.
@@ -41,21 +42,6 @@ fn idle_unit(r: Registers, mem: &mut [u16]) -> Registers
             fetch(r, mem)
         }
         Mode::Read => r,
-    }
-}
-
-// One unit: the first that applies.
-pub fn unit(r: Registers, mem: &mut [u16]) -> Registers
-    ensures { λ q. ⌜ state q (now (mem .exit)) ≡ unitDone (state r (now (mem .entry))) ⌝ }
-{
-    let work = r.work;
-    match work {
-        Work::Idle => idle_unit(r, mem),
-        Work::Figure { dot, d } => figures::figure::figure_unit(r, dot, d, mem),
-        Work::Character { row, column, start } => {
-            figures::character::character_unit(r, row, column, start, mem)
-        }
-        Work::Reading { item, transfer } => figures::reading::read_unit(r, item, transfer, mem),
     }
 }
 
@@ -119,8 +105,36 @@ pub fn length_right(n: usize) -> bool
         | (n == dots::ADDRESSES as usize)
 }
 
-// Units until the budget is spent or there is a reason to stop.
-fn run_on(r: Registers, mem: &mut [u16], budget: u32) -> Ran
+// It stops after n units, and why.
+fn stops(r: Registers, n: u32, why: u8) -> Ran
+    ensures { λ q. ⌜ q ≡ record { number = 0; count = n; why = why; regs = r } ⌝ }
+{
+    Ran {
+        number: 0,
+        count: n,
+        why: why,
+        regs: r,
+    }
+}
+
+// What a figure or a character is drawn with.
+fn brush_of(r: Registers) -> Brush
+    ensures { λ b. ⌜ b ≡ record { op = r .op; ram = r .ram; drawing = r .drawing; zoom = r .video .zoom; pitch = r .pitch } ⌝ }
+{
+    let op = r.op;
+    let ram = r.ram;
+    let f = r.drawing;
+    Brush {
+        op: op,
+        ram: ram,
+        drawing: f,
+        zoom: r.video.zoom,
+        pitch: r.pitch,
+    }
+}
+
+// Units until the budget is spent or there is a reason to stop: of a figure and a character many at once.
+pub fn run_on(r: Registers, mem: &mut [u16], budget: u32) -> Ran
     ensures { λ q. ⌜ outcome q (now (mem .exit)) ≡ runFrom budget 0 (state r (now (mem .entry))) ⌝ }
 {
     let mut s = r;
@@ -128,22 +142,36 @@ fn run_on(r: Registers, mem: &mut [u16], budget: u32) -> Ran
     while n < budget {
         let why = reason(s);
         if why != 0 {
-            return Ran {
-                number: 0,
-                count: n,
-                why: why,
-                regs: s,
-            };
+            return stops(s, n, why);
         }
-        s = unit(s, mem);
-        n += 1;
+        let work = s.work;
+        match work {
+            Work::Figure { dot, d } => {
+                let q = bursts::figure(mem, brush_of(s), s.cursor, dot, d, budget - n);
+                let at = q.cursor;
+                let next = q.work;
+                s = figures::goes_on(s, at, next);
+                n += q.count;
+            }
+            Work::Character { row, column, start } => {
+                let b = brush_of(s);
+                let q = bursts::character(mem, b, s.cursor, row, column, start, budget - n);
+                let at = q.cursor;
+                let next = q.work;
+                s = figures::goes_on(s, at, next);
+                n += q.count;
+            }
+            Work::Reading { item, transfer } => {
+                s = figures::reading::read_unit(s, item, transfer, mem);
+                n += 1;
+            }
+            Work::Idle => {
+                s = idle_unit(s, mem);
+                n += 1;
+            }
+        }
     }
-    Ran {
-        number: 0,
-        count: n,
-        why: 1,
-        regs: s,
-    }
+    stops(s, n, 1)
 }
 
 // The run: refusals 1 and 2, else units.

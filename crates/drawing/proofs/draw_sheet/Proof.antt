@@ -1,7 +1,7 @@
 -- `draw_sheet` is `sheetDrawn`: one law of DrawLaws for each way out.
 use mathlib.Core.Path.{sym, _∙_}
 use borrow.Author.Tests.{not-true, not-false}
-use Rattle.drawing.proofs.DrawLaws.{way-unsound, way-mislong, way-larger, way-refused, way-sent}
+use Rattle.drawing.proofs.DrawLaws.{way-unsound, way-mislong, way-larger, way-refused, way-sent, part-fits, part-long}
 use borrow.Author.Needs.{needs}
 use Rattle.drawing.proofs.draw_sheet.Statement.{statement}
 use Rattle.drawing.proofs.draw_sheet.Tie as tie
@@ -61,6 +61,19 @@ returns-4 c =
 finish-requires : tie.Need-finish-requires
 finish-requires c κs = search needs
 
+cast-n : tie.Need-cast-n
+cast-n c = search needs
+
+slice-reshare-prefix-send-all : tie.Need-slice-reshare-prefix-send-all
+slice-reshare-prefix-send-all c =
+    part-fits _ _ _ _ _ (c .before .before .before .before .before .before .before .before .before .translate .ensures)
+    (c .before .before .before .before .before .if4 .left)
+
+slice-aggregate-send-all : tie.Need-slice-aggregate-send-all
+slice-aggregate-send-all c =
+    part-long _ _ _ _ _ (c .before .before .before .before .before .before .before .before .before .before .translate .ensures)
+    (c .before .before .before .before .before .before .if4 .left)
+
 send-all-requires : tie.Need-send-all-requires
 send-all-requires c κs = search needs
 
@@ -72,13 +85,14 @@ same-length-3 c = search needs
 
 returns-5 : tie.Need-returns-5
 returns-5 c =
-    let d = c .before .before .before .before .before .before .before .before .before .before .before .before .before .before in
+    let d = c .before .before .before .before .before .before .before .before .before .before .before .before .before .before .before in
     way-sent _ _ _ _ _ _ _ (sym (d .before .before .before .before .before .before .before .sound .ensures)
     ∙ not-false _ (d .before .before .before .before .before .before .if1 .left))
     (sym (d .before .before .before .before .before .length-right .ensures) ∙ not-false _ (d .before .before .before .before .if2 .left))
     (sym (d .before .before .before .larger .ensures) ∙ d .before .before .if3 .left) (d .translate .ensures)
-    (c .before .before .before .before .before .before .before .before .before .before .if4 .left)
-    (c .before .before .before .before .before .before .before .before .finish .ensures) (c .before .before .before .send-all .ensures)
+    (c .before .before .before .before .before .before .before .before .before .before .before .if4 .left)
+    (c .before .before .before .before .before .before .before .before .before .finish .ensures)
+    (c .before .before .before .send-all .ensures)
 
 pub draw-sheet-spec : {M : Type 1} → statement M
 draw-sheet-spec =
@@ -98,6 +112,9 @@ draw-sheet-spec =
     same-length
     returns-4
     finish-requires
+    cast-n
+    slice-reshare-prefix-send-all
+    slice-aggregate-send-all
     send-all-requires
     same-length-2
     same-length-3

@@ -1,117 +1,22 @@
--- `status_of` is the definition; the sum of its bits fits a byte.
-use Rattle.ports.proofs.PortLaws.{one-le}
+-- `status_of` is the definition, of what its calls ensure.
 use Rattle.ports.specs.Port.{statusOf}
-use native.Mathlib.Omega.{arith}
 use borrow.Author.Needs.{needs}
 use Rattle.ports.proofs.status_of.Statement.{statement}
 use Rattle.ports.proofs.status_of.Tie as tie
 
-one-if-requires : tie.Need-one-if-requires
-one-if-requires c κs = search needs
-
-cast-pen : tie.Need-cast-pen
-cast-pen c = search needs
-
 figure-in-progress-requires : tie.Need-figure-in-progress-requires
 figure-in-progress-requires c κs = search needs
-
-one-if-requires-2 : tie.Need-one-if-requires-2
-one-if-requires-2 c κs = search needs
-
-cast-drawing : tie.Need-cast-drawing
-cast-drawing c = search needs
-
-one-if-requires-3 : tie.Need-one-if-requires-3
-one-if-requires-3 c κs = search needs
-
-cast-empty : tie.Need-cast-empty
-cast-empty c = search needs
-
-one-if-requires-4 : tie.Need-one-if-requires-4
-one-if-requires-4 c κs = search needs
-
-cast-full : tie.Need-cast-full
-cast-full c = search needs
 
 is-read-requires : tie.Need-is-read-requires
 is-read-requires c κs = search needs
 
-one-if-requires-5 : tie.Need-one-if-requires-5
-one-if-requires-5 c κs = search needs
-
-cast-ready : tie.Need-cast-ready
-cast-ready c = search needs
-
-mul-result : tie.Need-mul-result
-mul-result c = search needs
-
-mul-result-2 : tie.Need-mul-result-2
-mul-result-2 c = search needs
-
-add-result : tie.Need-add-result
-add-result c = search needs
-
-mul-result-3 : tie.Need-mul-result-3
-mul-result-3 c = search needs
-
-add-result-2 : tie.Need-add-result-2
-add-result-2 c = search needs
-
-mul-result-4 : tie.Need-mul-result-4
-mul-result-4 c = search needs
-
-add-result-3 : tie.Need-add-result-3
-add-result-3 c = search needs
-
-add-result-4 : tie.Need-add-result-4
-add-result-4 c = search needs
-
-cast-result : tie.Need-cast-result
-cast-result c =
-    omega (
-      arith,
-      one-le _ (c .before .before .before .before .before .before .before .before .before .one-if .ensures),
-      one-le _ (c .before .before .before .before .before .before .before .one-if2 .ensures),
-      one-le _ (c .before .before .before .before .before .one-if3 .ensures),
-      one-le _ (c .before .before .before .one-if4 .ensures),
-      one-le _ (c .one-if5 .ensures),
-    )
+status-by-requires : tie.Need-status-by-requires
+status-by-requires c κs = search needs
 
 returns : tie.Need-returns
 unfolding statusOf
-returns c = rw (
-  c .before .before .before .before .before .before .before .before .before .one-if .ensures,
-  c .before .before .before .before .before .before .before .one-if2 .ensures,
-  c .before .before .before .before .before .before .before .before .figure-in-progress .ensures,
-  c .before .before .before .before .before .one-if3 .ensures,
-  c .before .before .before .one-if4 .ensures,
-  c .one-if5 .ensures,
-  c .before .before .is-read .ensures,
-)
+returns c = rw (c .status-by .ensures, c .before .is-read .ensures, c .before .before .figure-in-progress .ensures)
 
 pub status-of-spec : {M : Type 1} → statement M
 status-of-spec =
-    tie.close
-    (tie.spec
-    one-if-requires
-    cast-pen
-    figure-in-progress-requires
-    one-if-requires-2
-    cast-drawing
-    one-if-requires-3
-    cast-empty
-    one-if-requires-4
-    cast-full
-    is-read-requires
-    one-if-requires-5
-    cast-ready
-    mul-result
-    mul-result-2
-    add-result
-    mul-result-3
-    add-result-2
-    mul-result-4
-    add-result-3
-    add-result-4
-    cast-result
-    returns)
+    tie.close (tie.spec figure-in-progress-requires is-read-requires status-by-requires returns)

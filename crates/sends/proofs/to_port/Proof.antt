@@ -1,25 +1,13 @@
--- `to_port` writes an entry to its port: the two ports of `written`, with the byte of the entry.
-use Rattle.sends.proofs.SendLaws.{by-parameter, by-command}
+-- `to_port` gives what the port leaves.
 use borrow.Author.Needs.{needs}
 use Rattle.sends.proofs.to_port.Statement.{statement}
 use Rattle.sends.proofs.to_port.Tie as tie
 
-cast-byte : tie.Need-cast-byte
-cast-byte c = search needs
-
-write-parameter-requires : tie.Need-write-parameter-requires
-write-parameter-requires c κs = search needs
+at-port-requires : tie.Need-at-port-requires
+at-port-requires c κs = search needs
 
 returns : tie.Need-returns
-returns c = by-parameter _ _ (c .before .before .if1 .taken) (c .before .write-parameter .ensures)
-
-write-command-requires : tie.Need-write-command-requires
-write-command-requires c κs = search needs
-
-returns-2 : tie.Need-returns-2
-returns-2 c = by-command _ _ (c .before .before .if1 .left) (c .before .write-command .ensures)
+returns c = rw (c .before .at-port .ensures)
 
 pub to-port-spec : {M : Type 1} → statement M
-to-port-spec =
-    tie.close
-    (tie.spec cast-byte write-parameter-requires returns write-command-requires returns-2)
+to-port-spec = tie.close (tie.spec at-port-requires returns)

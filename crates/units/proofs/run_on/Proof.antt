@@ -1,5 +1,8 @@
--- `run_on`: after n units, what is left to do from here is what was to do from the start.
+-- `run_on`: after n units, what is left to do from here is what was to do from the start; many units at once are as many (`figure-ahead`,
+-- `character-ahead`).
+use Rattle.units.proofs.AheadLaws.{figure-ahead, character-ahead, goes-ahead}
 use Rattle.units.proofs.RunLaws.{run-starts, run-ends, run-stops, run-goes-on}
+use Rattle.units.proofs.UnitLaws.{unit-by}
 use Rattle.units.specs.Run.{runFrom}
 use Rattle.registers.specs.State.{state}
 use Rattle.registers.specs.declared.Registers.{Registers}
@@ -29,37 +32,168 @@ loop-holds c = record { within = search needs; long = refl; same = run-starts _ 
 reason-requires : tie.Need-reason-requires Inv-loop μ-loop
 reason-requires c κs = search needs
 
+stops-requires : tie.Need-stops-requires Inv-loop μ-loop
+stops-requires c κs = search needs
+
 same-length : tie.Need-same-length Inv-loop μ-loop
-same-length c = c .before .before .before .loop .inv .long
+same-length c = c .before .before .before .before .loop .inv .long
 
 returns : tie.Need-returns Inv-loop μ-loop
-returns c = let l = c .before .before .before .loop in
-    run-stops _ _ _ (c .before .before .loop-test .taken) (c .before .reason .ensures) (c .if1 .taken) ∙ sym (l .inv .same)
+returns c =
+    rw (c .stops .ensures) (run-stops _ _ _ (c .before .before .before .loop-test .taken) (c .before .before .reason .ensures)
+    (c .before .if1 .taken) ∙ sym (c .before .before .before .before .loop .inv .same))
 
-unit-requires : tie.Need-unit-requires Inv-loop μ-loop
-unit-requires c κs = search needs
+enum-known-work : tie.Need-enum-known-work Inv-loop μ-loop
+enum-known-work c = search needs
+
+brush-of-requires : tie.Need-brush-of-requires Inv-loop μ-loop
+brush-of-requires c κs = search needs
+
+sub-figure : tie.Need-sub-figure Inv-loop μ-loop
+sub-figure c = search needs
+
+figure-requires : tie.Need-figure-requires Inv-loop μ-loop
+figure-requires c κs = search needs
+
+goes-on-requires : tie.Need-goes-on-requires Inv-loop μ-loop
+goes-on-requires c κs = search needs
 
 add-n : tie.Need-add-n Inv-loop μ-loop
-add-n c = search needs
+add-n c =
+    let w = c .before .before .before .before .before .before .before .before .before in
+    omega (
+      arith,
+      w .before .before .before .before .before .before .before .fits,
+      figure-ahead (w .before .before .before .before .before .loop .s) _ _ _ _ _ _ (w .before .before .before .before .loop-test .taken)
+          (w .work .given .1) (c .before .before .before .before .before .before .brush-of .ensures)
+          (c .before .before .before .before .before .figure .ensures) .within,
+    )
 
 loop-less : tie.Need-loop-less Inv-loop μ-loop
-loop-less c = omega arith
+loop-less c =
+    let w = c .before .before .before .before .before .before .before .before .before in
+    let v = figure-ahead (w .before .before .before .before .before .loop .s) _ _ _ _ _ _
+    (w .before .before .before .before .loop-test .taken) (w .work .given .1)
+    (c .before .before .before .before .before .before .brush-of .ensures)
+    (c .before .before .before .before .before .figure .ensures) in
+    omega (arith, v .some, v .within)
 
 loop-again : tie.Need-loop-again Inv-loop μ-loop
-loop-again c = let l = c .before .before .before .before .before .before .before .loop in
+loop-again c =
+    let w = c .before .before .before .before .before .before .before .before .before in
+    let v = figure-ahead (w .before .before .before .before .before .loop .s) _ _ _ _ _ _
+    (w .before .before .before .before .loop-test .taken) (w .work .given .1)
+    (c .before .before .before .before .before .before .brush-of .ensures)
+    (c .before .before .before .before .before .figure .ensures) in
     record {
-      within = omega arith;
-      long = c .before .before .unit .kept .1 .0 ∙ l .inv .long;
-      same = l .inv .same ∙ run-goes-on _ _ _ (c .before .before .before .before .before .before .loop-test .taken)
-          (c .before .before .before .before .before .reason .ensures) (c .before .before .before .before .if1 .left)
-          (c .before .before .unit .ensures);
+      within = v .within;
+      long = c .before .before .before .before .before .figure .kept .0 ∙ w .before .before .before .before .before .loop .inv .long;
+      same = w .before .before .before .before .before .loop .inv .same ∙ goes-ahead _ _ _ _ _ v (c .before .goes-on .ensures);
     }
 
+enum-known-work-2 : tie.Need-enum-known-work-2 Inv-loop μ-loop
+enum-known-work-2 c = search needs
+
+brush-of-requires-2 : tie.Need-brush-of-requires-2 Inv-loop μ-loop
+brush-of-requires-2 c κs = search needs
+
+sub-character : tie.Need-sub-character Inv-loop μ-loop
+sub-character c = search needs
+
+character-requires : tie.Need-character-requires Inv-loop μ-loop
+character-requires c κs = search needs
+
+goes-on-requires-2 : tie.Need-goes-on-requires-2 Inv-loop μ-loop
+goes-on-requires-2 c κs = search needs
+
+add-n-2 : tie.Need-add-n-2 Inv-loop μ-loop
+add-n-2 c =
+    let w = c .before .before .before .before .before .before .before .before .before in
+    omega (
+      arith,
+      w .before .before .before .before .before .before .before .fits,
+      character-ahead (w .before .before .before .before .before .loop .s) _ _ _ _ _ _ _
+          (w .before .before .before .before .loop-test .taken) (w .work2 .given .1)
+          (c .before .before .before .before .before .before .before .brush-of2 .ensures)
+          (c .before .before .before .before .before .character .ensures) .within,
+    )
+
+loop-less-2 : tie.Need-loop-less-2 Inv-loop μ-loop
+loop-less-2 c =
+    let w = c .before .before .before .before .before .before .before .before .before in
+    let v = character-ahead (w .before .before .before .before .before .loop .s) _ _ _ _ _ _ _
+    (w .before .before .before .before .loop-test .taken) (w .work2 .given .1)
+    (c .before .before .before .before .before .before .before .brush-of2 .ensures)
+    (c .before .before .before .before .before .character .ensures) in
+    omega (arith, v .some, v .within)
+
+loop-again-2 : tie.Need-loop-again-2 Inv-loop μ-loop
+loop-again-2 c =
+    let w = c .before .before .before .before .before .before .before .before .before in
+    let v = character-ahead (w .before .before .before .before .before .loop .s) _ _ _ _ _ _ _
+    (w .before .before .before .before .loop-test .taken) (w .work2 .given .1)
+    (c .before .before .before .before .before .before .before .brush-of2 .ensures)
+    (c .before .before .before .before .before .character .ensures) in
+    record {
+      within = v .within;
+      long = c .before .before .before .before .before .character .kept .0 ∙ w .before .before .before .before .before .loop .inv .long;
+      same = w .before .before .before .before .before .loop .inv .same ∙ goes-ahead _ _ _ _ _ v (c .before .goes-on2 .ensures);
+    }
+
+enum-known-work-3 : tie.Need-enum-known-work-3 Inv-loop μ-loop
+enum-known-work-3 c = search needs
+
+read-unit-requires : tie.Need-read-unit-requires Inv-loop μ-loop
+read-unit-requires c κs = search needs
+
+add-n-3 : tie.Need-add-n-3 Inv-loop μ-loop
+add-n-3 c = search needs
+
+loop-less-3 : tie.Need-loop-less-3 Inv-loop μ-loop
+loop-less-3 c = omega arith
+
+loop-again-3 : tie.Need-loop-again-3 Inv-loop μ-loop
+loop-again-3 c = let l = c .before .before .before .before .before .before .before .before .before .before .loop in
+    record {
+      within = omega arith;
+      long = c .before .before .read-unit .kept .1 .1 .1 .0 ∙ l .inv .long;
+      same = l .inv .same ∙ run-goes-on _ _ _ (c .before .before .before .before .before .before .before .before .before .loop-test .taken)
+          (c .before .before .before .before .before .before .before .before .reason .ensures)
+          (c .before .before .before .before .before .before .before .if1 .left)
+          (unit-by _ _ (c .before .before .before .before .before .work3 .given .1) (c .before .before .read-unit .ensures));
+    }
+
+enum-told : tie.Need-enum-told Inv-loop μ-loop
+enum-told c = search needs
+
+idle-unit-requires : tie.Need-idle-unit-requires Inv-loop μ-loop
+idle-unit-requires c κs = search needs
+
+add-n-4 : tie.Need-add-n-4 Inv-loop μ-loop
+add-n-4 c = search needs
+
+loop-less-4 : tie.Need-loop-less-4 Inv-loop μ-loop
+loop-less-4 c = omega arith
+
+loop-again-4 : tie.Need-loop-again-4 Inv-loop μ-loop
+loop-again-4 c = let l = c .before .before .before .before .before .before .before .before .before .loop in
+    record {
+      within = omega arith;
+      long = c .before .before .idle-unit .kept .1 .0 ∙ l .inv .long;
+      same = l .inv .same ∙ run-goes-on _ _ _ (c .before .before .before .before .before .before .before .before .loop-test .taken)
+          (c .before .before .before .before .before .before .before .reason .ensures)
+          (c .before .before .before .before .before .before .if1 .left)
+          (unit-by _ _ (c .before .before .before .before .enum-told .given .1) (c .before .before .idle-unit .ensures));
+    }
+
+stops-requires-2 : tie.Need-stops-requires-2 Inv-loop μ-loop
+stops-requires-2 c κs = search needs
+
 same-length-2 : tie.Need-same-length-2 Inv-loop μ-loop
-same-length-2 c = c .before .loop .inv .long
+same-length-2 c = c .before .before .loop .inv .long
 
 returns-2 : tie.Need-returns-2 Inv-loop μ-loop
-returns-2 c = run-ends _ _ _ (c .loop-test .left) ∙ sym (c .before .loop .inv .same)
+returns-2 c = rw (c .stops2 .ensures) (run-ends _ _ _ (c .before .loop-test .left) ∙ sym (c .before .before .loop .inv .same))
 
 pub run-on-spec : {M : Type 1} → statement M
 run-on-spec =
@@ -69,11 +203,35 @@ run-on-spec =
     μ-loop
     loop-holds
     reason-requires
+    stops-requires
     same-length
     returns
-    unit-requires
+    enum-known-work
+    brush-of-requires
+    sub-figure
+    figure-requires
+    goes-on-requires
     add-n
     loop-less
     loop-again
+    enum-known-work-2
+    brush-of-requires-2
+    sub-character
+    character-requires
+    goes-on-requires-2
+    add-n-2
+    loop-less-2
+    loop-again-2
+    enum-known-work-3
+    read-unit-requires
+    add-n-3
+    loop-less-3
+    loop-again-3
+    enum-told
+    idle-unit-requires
+    add-n-4
+    loop-less-4
+    loop-again-4
+    stops-requires-2
     same-length-2
     returns-2)

@@ -1,0 +1,4 @@
+pub mod SettingsLaws
+pub mod CommandLaws
+pub mod DataLaws
+pub mod SettleLaws

@@ -1,0 +1,200 @@
+-- Units of a figure or a character done at once are as many units of the run: a dot is one unit, and the run goes on after it.
+use mathlib.Core.Path.{_≡_, refl, sym, ap, _∙_}
+use mathlib.Core.List.{List}
+use Prim.Native.Nat.{ℕ, zero, suc, _+_, _-_, _≤_, _<_}
+use native.Mathlib.Decide.{decLt}
+use native.Mathlib.Omega.{arith}
+use borrow.Author.Tests.{lt-ltb, le-ltb}
+use Rattle.dots.specs.declared.Cursor.{Cursor}
+use Rattle.dots.specs.Step.{stepOf}
+use Rattle.registers.specs.declared.Work.{Work}
+use Rattle.registers.specs.declared.Work.the-variants.{Idle, Figure, Character}
+use Rattle.registers.specs.declared.Registers.{Registers}
+use Rattle.registers.specs.Size.{dotsOf}
+use Rattle.registers.specs.Put.{putCursor, putWork}
+use Rattle.registers.specs.State.{State, state}
+use Rattle.figures.specs.Figure.{directionAt, runningD, figureMoved, figureUnit}
+use Rattle.figures.specs.Character.{nextStart, characterMoved, characterUnit}
+use Rattle.bursts.specs.declared.Brush.{Brush}
+use Rattle.bursts.specs.declared.Burst.{Burst}
+use Rattle.bursts.specs.Burst.{Drawn, burst, later, dotted, figureBurst, rowsIn, columnsIn, lettered, nextRow, characterBurst, rowsAhead}
+use Rattle.bursts.proofs.BurstLaws.{figure-goes, figure-last, character-goes, character-turns, character-last}
+use Rattle.bursts.proofs.CountLaws.{Counted, figure-counted, character-counted, ahead-counted}
+use Rattle.units.specs.Unit.{unitDone}
+use Rattle.units.specs.Run.{Outcome, reasonOf, runFrom}
+
+-- one unit where there is no reason to stop
+run-suc : (f j : ℕ) (s : State) → reasonOf (s .regs) ≡ 0 → runFrom (suc f) j s ≡ runFrom f (j + 1) (unitDone s)
+unfolding runFrom
+run-suc f j s e = rw e
+
+run-one : (b j : ℕ) (s : State) → 1 ≤ b → reasonOf (s .regs) ≡ 0 → runFrom b j s ≡ runFrom (b - 1) (j + 1) (unitDone s)
+run-one b j s h e = let g : b ≡ suc (b - 1) = omega arith in ap (λ (n : ℕ). runFrom n j s) g ∙ run-suc (b - 1) j s e
+
+figure-busy : (r : Registers) {k d : ℕ} → r .work ≡ Figure k d → reasonOf r ≡ 0
+unfolding reasonOf
+figure-busy r e = rw e
+
+character-busy : (r : Registers) {y x : ℕ} {s : Cursor} → r .work ≡ Character y x s → reasonOf r ≡ 0
+unfolding reasonOf
+character-busy r e = rw e
+
+-- the registers r but for the cursor and what is in progress
+module _ (r : Registers) where
+  abbrev brush : Brush
+  brush = record { op = r .op; ram = r .ram; drawing = r .drawing; zoom = r .video .zoom; pitch = r .pitch }
+
+  abbrev placed : Cursor → Work → List ℕ → State
+  placed c w m = state (putWork (putCursor r c) w) m
+
+  -- the run after a burst
+  abbrev onward : ℕ → ℕ → Drawn → Outcome
+  onward b j q = runFrom (b - q .count) (j + q .count) (placed (q .cursor) (q .work) (q .mem))
+
+  no-units : (b j : ℕ) (c : Cursor) (w : Work) (m : List ℕ)
+      → runFrom b j (placed c w m) ≡ onward b j (record { count = 0; cursor = c; work = w; mem = m })
+  no-units b j c w m =
+      let e : b ≡ b - 0 = omega arith in
+      let f : j ≡ j + 0 = omega arith in
+      λ i. runFrom (e i) (f i) (placed c w m)
+
+  onward-later : (b j : ℕ) (q : Drawn) → onward (b - 1) (j + 1) q ≡ onward b j (later 1 q)
+  onward-later b j q =
+      let e : b - 1 - q .count ≡ b - (1 + q .count) = omega arith in
+      let f : j + 1 + q .count ≡ j + (1 + q .count) = omega arith in
+      λ i. runFrom (e i) (f i) (placed (q .cursor) (q .work) (q .mem))
+
+  -- ---- a figure
+  figure-on : (k d : ℕ) (c : Cursor) (m : List ℕ) → k + 1 < dotsOf (r .drawing) → unitDone (placed c (Figure k d) m)
+      ≡ placed (stepOf (directionAt (r .drawing) k d) (r .pitch) c) (Figure (k + 1) (runningD (r .drawing) d)) (dotted brush k c m)
+  unfolding unitDone figureUnit figureMoved
+  figure-on k d c m h = rw (lt-ltb (k + 1) (dotsOf (r .drawing)) h)
+
+  figure-end : (k d : ℕ) (c : Cursor) (m : List ℕ) → dotsOf (r .drawing) ≤ k + 1
+      → unitDone (placed c (Figure k d) m) ≡ placed c Idle (dotted brush k c m)
+  unfolding unitDone figureUnit figureMoved
+  figure-end k d c m h = rw (le-ltb (k + 1) (dotsOf (r .drawing)) h)
+
+  figure-runs : (n k d : ℕ) (c : Cursor) (m : List ℕ) (b j : ℕ) → n ≤ b
+      → runFrom b j (placed c (Figure k d) m) ≡ onward b j (figureBurst brush n k d c m)
+  unfolding figureBurst
+  figure-runs zero k d c m b j l = no-units b j c (Figure k d) m
+  figure-runs (suc n) k d c m b j l =
+      run-one b j (placed c (Figure k d) m) (omega arith) (figure-busy (placed c (Figure k d) m .regs) refl)
+      ∙ go (decLt (k + 1) (dotsOf (r .drawing)))
+      (figure-runs n (k + 1) (runningD (r .drawing) d) (stepOf (directionAt (r .drawing) k d) (r .pitch) c) (dotted brush k c m)
+      (b - 1) (j + 1) (omega arith))
+    where
+      t : Cursor
+      t = stepOf (directionAt (r .drawing) k d) (r .pitch) c
+
+      v : ℕ
+      v = runningD (r .drawing) d
+
+      go : Dec (k + 1 < dotsOf (r .drawing))
+          → runFrom (b - 1) (j + 1) (placed t (Figure (k + 1) v) (dotted brush k c m))
+          ≡ onward (b - 1) (j + 1) (figureBurst brush n (k + 1) v t (dotted brush k c m))
+          → runFrom (b - 1) (j + 1) (unitDone (placed c (Figure k d) m)) ≡ onward b j (figureBurst brush (suc n) k d c m)
+      go (yes h) e =
+          ap (runFrom (b - 1) (j + 1)) (figure-on k d c m h) ∙ e
+          ∙ onward-later b j _ ∙ ap (onward b j) (sym (figure-goes brush n k d c m h))
+      go (no h) e =
+          ap (runFrom (b - 1) (j + 1)) (figure-end k d c m (omega arith))
+          ∙ ap (onward b j) (sym (figure-last brush n k d c m (omega arith)))
+
+  -- ---- a character
+  character-on : (y x : ℕ) (s c : Cursor) (m : List ℕ) → x + 1 < columnsIn brush
+      → unitDone (placed c (Character y x s) m)
+      ≡ placed (stepOf (r .drawing .dir) (r .pitch) c) (Character y (x + 1) s) (lettered brush y x c m)
+  unfolding unitDone characterUnit characterMoved
+  character-on y x s c m h = rw (lt-ltb (x + 1) (columnsIn brush) h)
+
+  character-turn : (y x : ℕ) (s c : Cursor) (m : List ℕ) → columnsIn brush ≤ x + 1 → y + 1 < rowsIn brush
+      → unitDone (placed c (Character y x s) m)
+      ≡ placed (nextRow brush s) (Character (y + 1) 0 (nextRow brush s)) (lettered brush y x c m)
+  unfolding unitDone characterUnit characterMoved nextStart
+  character-turn y x s c m h g = rw (le-ltb (x + 1) (columnsIn brush) h, lt-ltb (y + 1) (rowsIn brush) g)
+
+  character-end : (y x : ℕ) (s c : Cursor) (m : List ℕ) → columnsIn brush ≤ x + 1 → rowsIn brush ≤ y + 1
+      → unitDone (placed c (Character y x s) m) ≡ placed c Idle (lettered brush y x c m)
+  unfolding unitDone characterUnit characterMoved
+  character-end y x s c m h g = rw (le-ltb (x + 1) (columnsIn brush) h, le-ltb (y + 1) (rowsIn brush) g)
+
+  character-runs : (n y x : ℕ) (s c : Cursor) (m : List ℕ) (b j : ℕ) → n ≤ b
+      → runFrom b j (placed c (Character y x s) m) ≡ onward b j (characterBurst brush n y x s c m)
+  unfolding characterBurst
+  character-runs zero y x s c m b j l = no-units b j c (Character y x s) m
+  character-runs (suc n) y x s c m b j l =
+      run-one b j (placed c (Character y x s) m) (omega arith) (character-busy (placed c (Character y x s) m .regs) refl)
+      ∙ go (decLt (x + 1) (columnsIn brush)) (decLt (y + 1) (rowsIn brush))
+      (character-runs n y (x + 1) s (stepOf (r .drawing .dir) (r .pitch) c) (lettered brush y x c m) (b - 1) (j + 1) (omega arith))
+      (character-runs n (y + 1) 0 (nextRow brush s) (nextRow brush s) (lettered brush y x c m) (b - 1) (j + 1) (omega arith))
+    where
+      t : Cursor
+      t = stepOf (r .drawing .dir) (r .pitch) c
+
+      u : Cursor
+      u = nextRow brush s
+
+      l′ : List ℕ
+      l′ = lettered brush y x c m
+
+      go : Dec (x + 1 < columnsIn brush) → Dec (y + 1 < rowsIn brush)
+          → runFrom (b - 1) (j + 1) (placed t (Character y (x + 1) s) l′)
+          ≡ onward (b - 1) (j + 1) (characterBurst brush n y (x + 1) s t l′)
+          → runFrom (b - 1) (j + 1) (placed u (Character (y + 1) 0 u) l′)
+          ≡ onward (b - 1) (j + 1) (characterBurst brush n (y + 1) 0 u u l′)
+          → runFrom (b - 1) (j + 1) (unitDone (placed c (Character y x s) m)) ≡ onward b j (characterBurst brush (suc n) y x s c m)
+      go (yes g) h e f =
+          ap (runFrom (b - 1) (j + 1)) (character-on y x s c m g) ∙ e ∙ onward-later b j _
+          ∙ ap (onward b j) (sym (character-goes brush n y x s c m g))
+      go (no g) (yes h) e f =
+          ap (runFrom (b - 1) (j + 1)) (character-turn y x s c m (omega arith) h) ∙ f ∙ onward-later b j _
+          ∙ ap (onward b j) (sym (character-turns brush n y x s c m (omega arith) h))
+      go (no g) (no h) e f =
+          ap (runFrom (b - 1) (j + 1)) (character-end y x s c m (omega arith) (omega arith))
+          ∙ ap (onward b j) (sym (character-last brush n y x s c m (omega arith) (omega arith)))
+
+  -- ---- over what the calls of the code ensure: the run goes on after them, and they are some units within the budget
+  pub record Ahead (b n : ℕ) (m l : List ℕ) (q : Burst) : Type 0 where
+    pub some : 0 < q .count
+    pub within : n + q .count ≤ b
+    pub runs : runFrom (b - n) n (state r m) ≡ runFrom (b - (n + q .count)) (n + q .count) (placed (q .cursor) (q .work) l)
+
+  ahead-by : (b n j : ℕ) (m l : List ℕ) {q : Burst} (t : Drawn) → n < b → Counted j (t .count) → 0 < j → j ≤ b - n → burst q l ≡ t
+      → runFrom (b - n) n (state r m) ≡ onward (b - n) n t → Ahead b n m l q
+  ahead-by b n j m l {q} t h v p o e g =
+      let c : q .count ≡ t .count = ap (λ (w : Drawn). w .count) e in
+      let f : b - n - q .count ≡ b - (n + q .count) = omega arith in
+      record {
+        some = omega (arith, v .some p);
+        within = omega (arith, v .within);
+        runs = g ∙ ap (onward (b - n) n) (sym e)
+            ∙ ap (λ (i : ℕ). runFrom i (n + q .count) (placed (q .cursor) (q .work) l)) f;
+      }
+
+  same-work : (m : List ℕ) {w : Work} → r .work ≡ w → state r m ≡ placed (r .cursor) w m
+  same-work m e = λ i. state (putWork r (e i)) m
+
+  pub figure-ahead : (b n k d : ℕ) (m l : List ℕ) {q : Burst} {u : Brush} → n < b → r .work ≡ Figure k d → u ≡ brush
+      → burst q l ≡ figureBurst u (b - n) k d (r .cursor) m → Ahead b n m l q
+  figure-ahead b n k d m l h w g e =
+      ahead-by b n (b - n) m l (figureBurst brush (b - n) k d (r .cursor) m) h (figure-counted brush (b - n) k d (r .cursor) m)
+      (omega arith) (omega arith) (e ∙ ap (λ (v : Brush). figureBurst v (b - n) k d (r .cursor) m) g)
+      (ap (runFrom (b - n) n) (same-work m w) ∙ figure-runs (b - n) k d (r .cursor) m (b - n) n (omega arith))
+
+  abbrev letters : Brush → ℕ → ℕ → ℕ → Cursor → List ℕ → Drawn
+  letters u most y x s m = characterBurst u (rowsAhead most y x (rowsIn u) (columnsIn u)) y x s (r .cursor) m
+
+  pub character-ahead : (b n y x : ℕ) (s : Cursor) (m l : List ℕ) {q : Burst} {u : Brush} → n < b → r .work ≡ Character y x s → u ≡ brush
+      → burst q l ≡ characterBurst u (rowsAhead (b - n) y x (rowsIn u) (columnsIn u)) y x s (r .cursor) m → Ahead b n m l q
+  character-ahead b n y x s m l h w g e =
+      let j = rowsAhead (b - n) y x (rowsIn brush) (columnsIn brush) in
+      let v = ahead-counted (b - n) y x (rowsIn brush) (columnsIn brush) in
+      ahead-by b n j m l (letters brush (b - n) y x s m) h (character-counted brush j y x s (r .cursor) m)
+      (v .some (omega arith)) (v .within) (e ∙ ap (λ (z : Brush). letters z (b - n) y x s m) g)
+      (ap (runFrom (b - n) n) (same-work m w) ∙ character-runs j y x s (r .cursor) m (b - n) n (v .within))
+
+  pub goes-ahead : (b n : ℕ) (m l : List ℕ) {q : Burst} {t : Registers} → Ahead b n m l q → t ≡ putWork (putCursor r (q .cursor)) (q .work)
+      → runFrom (b - n) n (state r m) ≡ runFrom (b - (n + q .count)) (n + q .count) (state t l)
+  goes-ahead b n m l {q} v e = v .runs ∙ ap (λ (t : Registers). runFrom (b - (n + q .count)) (n + q .count) (state t l)) (sym e)
