@@ -38,4 +38,12 @@ void hand_fresh(struct hand *h);
 int hand_command(struct hand *h, uint8_t byte);   /* a number of refusal, 0 for none */
 int hand_parameter(struct hand *h, uint8_t byte);
 int hand_run(struct hand *h, uint16_t *mem, size_t length, uint32_t budget, uint32_t *count, int *why);
+
+/* Of hand_list.c: a byte read, and the list in one call, with the answer of kranichseil_board_send. */
+int hand_read(struct hand *h, uint8_t *value);
+struct hand_tally {
+    int number;
+    uint64_t taken, units;
+};
+struct hand_tally hand_send(struct hand *h, const uint16_t *entries, size_t count, uint16_t *mem, size_t length);
 #endif

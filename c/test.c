@@ -1,8 +1,6 @@
 // Drives the archive from C: the layout of the header, document 01's worked cases, and every number of refusal. Expected values are
 // 01's, written by hand. Ends with status 0 and `0 failed`, or says which lines failed. tools/ctest builds and runs it.
-#include "kranichseil.h"
-#include <stdio.h>
-#include <string.h>
+#include "check.h"
 
 // ---- the header's layout
 #define AT(type, field, offset) _Static_assert(offsetof(struct kranichseil_##type, field) == (offset), #type "." #field)
@@ -22,18 +20,11 @@ AT(registers, progress, 100); AT(registers, work, 104);
 SIZE(answer, 136); AT(answer, number, 0); AT(answer, value, 1); AT(answer, regs, 4);
 SIZE(ran, 144); AT(ran, number, 0); AT(ran, count, 4); AT(ran, why, 8); AT(ran, regs, 12);
 SIZE(report, 12); AT(report, number, 0); AT(report, count, 4); AT(report, why, 8);
+SIZE(reply, 2); AT(reply, number, 0); AT(reply, value, 1);
+SIZE(tally, 24); AT(tally, number, 0); AT(tally, taken, 8); AT(tally, units, 16);
 SIZE(translation, 12); AT(translation, number, 0); AT(translation, first, 4); AT(translation, second, 8);
 
 // ---- helpers
-static unsigned failed, checks;
-#define IS(got, want) is((unsigned long)(got), (unsigned long)(want), #got, __LINE__)
-static void is(unsigned long got, unsigned long want, const char *what, int line) {
-    checks++;
-    if (got == want) return;
-    failed++;
-    printf("line %d: %s is %lu, not %lu\n", line, what, got, want);
-}
-
 static struct kranichseil_registers r;
 static uint16_t memory[262144];
 static size_t length = 16384;
@@ -59,16 +50,6 @@ static void send(uint8_t c, const char *bytes, size_t n) {
     run(1000000);
 }
 #define SEND(c, bytes) send(c, bytes, sizeof bytes - 1)
-
-// every field alike; padding says nothing
-#define FIELD(f) memcmp(&a->f, &b->f, sizeof a->f) == 0
-static int same(const struct kranichseil_registers *a, const struct kranichseil_registers *b) {
-    return FIELD(cursor.ead) && FIELD(cursor.mask) && FIELD(pitch) && FIELD(drawing.kind) && FIELD(drawing.dir) && FIELD(drawing.gd)
-        && FIELD(drawing.dc) && FIELD(drawing.d) && FIELD(drawing.d2) && FIELD(drawing.d1) && FIELD(drawing.dm) && FIELD(op)
-        && FIELD(ram) && FIELD(video) && FIELD(pen.address) && FIELD(pen.set) && FIELD(mode) && FIELD(buffer.entries)
-        && FIELD(buffer.count) && FIELD(progress) && FIELD(work.kind) && FIELD(work.transfer) && FIELD(work.d) && FIELD(work.item)
-        && FIELD(work.dot) && FIELD(work.row) && FIELD(work.column) && FIELD(work.start.ead) && FIELD(work.start.mask);
-}
 
 // ---- each field stands in the archive where the header has it: set by the commands, looked at from C
 static void layout(void) {
@@ -282,18 +263,11 @@ static void sheet_refusals(void) {
     sheet[1023] ^= 1; REFUSED(40, 400, 1024, 0, 17000, 14, 1, 0);
 }
 
-static void section(const char *name, void (*cases)(void)) {
-    unsigned before = checks;
-    cases();
-    printf("%s: %u checks\n", name, checks - before);
-}
-
 int main(void) {
     section("layout", layout);
     section("worked cases", worked);
     section("sheets", sheets);
     section("refusals 1 to 6", refusals);
     section("refusals 11 to 20", sheet_refusals);
-    printf("%u checks, %u failed\n", checks, failed);
-    return failed != 0;
+    return checked();
 }

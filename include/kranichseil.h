@@ -6,7 +6,8 @@
    Pointers are never NULL, also where the length is 0, and what they lead to does not overlap.
 
    Numbers of refusal, in `number`; 0 is success. On 1 to 6 the set comes back as given, with 0 for value, count and why; memory,
-   sheet and output are unaltered by any refusal.
+   sheet and output are unaltered by any refusal. A list of entries stops at one that is refused with 3 or 4: those before it
+   stay taken.
       1 register set unsound, or none                 2 memory length not a power of two, 16 to 262,144
       3 write mode and the buffer holds 16            4 parameter byte in read mode
       5 read with no byte to give                     6 pen address 262,144 or more
@@ -110,6 +111,16 @@ struct kranichseil_report {             /* 12 bytes; of a run by reference */
     uint8_t why;                        /* 8 */
 };
 
+struct kranichseil_reply {              /* 2 bytes; of a port by reference */
+    uint8_t number;                     /* 0 */
+    uint8_t value;                      /* 1: the byte read */
+};
+
+struct kranichseil_tally {              /* 24 bytes; of a list of entries */
+    uint8_t number;                     /* 0 */
+    uint64_t taken, units;              /* 8, 16: entries taken, and the units of their runs */
+};
+
 struct kranichseil_translation {        /* 12 bytes */
     uint8_t number;                     /* 0 */
     uint32_t first, second;             /* 4, 8: entries written or needed, block, record */
@@ -135,6 +146,15 @@ struct kranichseil_answer kranichseil_pen(struct kranichseil_registers r, uint32
 struct kranichseil_ran kranichseil_run(struct kranichseil_registers r, uint16_t *memory, size_t length, uint32_t budget);
 /* The same on the set where it stands: the board call. */
 struct kranichseil_report kranichseil_board_run(struct kranichseil_registers *r, uint16_t *memory, size_t length, uint32_t budget);
+/* An entry, a byte and 256 more for the command port, to its port, on the set where it stands: 1, 4, 3. Of an entry of 256 or more
+   the low eight bits are the command byte. */
+struct kranichseil_reply kranichseil_board_write(struct kranichseil_registers *r, uint16_t entry);
+/* A byte from a port, in value, on the set where it stands: of port 0 the status: 1; of any other the oldest read byte: 1, 5. */
+struct kranichseil_reply kranichseil_board_read(struct kranichseil_registers *r, uint8_t port);
+/* Entries in order, on the set where it stands, each to its port and with a run until idle (of 4,294,967,295 units at most), up to
+   the first that its port refuses: 1, 2, and of that entry's port 4, 3. */
+struct kranichseil_tally kranichseil_board_send(struct kranichseil_registers *r, const uint16_t *entries, size_t entries_length,
+                                                uint16_t *memory, size_t length);
 /* A sheet into entries (a command is its byte + 256), for a plane of p words by h lines and eight bytes per glyph: 11 to 20. */
 struct kranichseil_translation kranichseil_translate(const uint8_t *sheet, size_t sheet_length, uint32_t p, uint32_t h,
                                                      const uint8_t *glyphs, size_t glyphs_length, uint16_t *out, size_t out_length);
