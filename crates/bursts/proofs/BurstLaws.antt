@@ -11,11 +11,11 @@ use Rattle.dots.specs.Step.{stepOf}
 use Rattle.registers.specs.declared.Work.the-variants.{Idle, Figure, Character}
 use Rattle.registers.specs.Size.{dotsOf}
 use Rattle.figures.specs.Figure.{directionAt, runningD}
-use Rattle.bursts.specs.declared.Brush.{Brush}
-use Rattle.bursts.specs.declared.Reached.{Reached}
-use Rattle.bursts.specs.Burst.{Drawn, later, dotted, figureBurst, lettered, nextRow, rowsIn, columnsIn, characterBurst}
-use Rattle.bursts.specs.Burst.{least, wholeRows, rowsAhead}
-use Rattle.bursts.specs.Walk.{Led, led, Stood, stood, figureWalk, rowWalk, rowsWalk, afterRow}
+use Rattle.walks.specs.declared.Brush.{Brush}
+use Rattle.walks.specs.declared.Reached.{Reached}
+use Rattle.walks.specs.Walk.{least, dotted, Led, led, figureWalk, lettered, nextRow, rowsIn, columnsIn, Stood, stood, rowWalk, rowsWalk}
+use Rattle.walks.proofs.LeastLaws.{is-least}
+use Rattle.bursts.specs.Burst.{Drawn, later, figureBurst, characterBurst, wholeRows, rowsAhead, afterRow}
 
 later-later : (n j : ℕ) (q : Drawn) → later n (later j q) ≡ later (n + j) q
 later-later n j q =
@@ -25,24 +25,6 @@ later-later n j q =
 later-none : (q : Drawn) → q ≡ later 0 q
 later-none q =
     let e : q .count ≡ 0 + q .count = omega arith in λ i. record { count = e i; cursor = q .cursor; work = q .work; mem = q .mem }
-
--- what the lesser of two numbers is
-pub record Least (x y n : ℕ) : Type 0 where
-  pub left : n ≤ x
-  pub right : n ≤ y
-  pub reached : n < x → n ≡ y
-  pub above : (i : ℕ) → i < x → i < y → i < n
-
-pub is-least : (x y : ℕ) {n : ℕ} → n ≡ least x y → Least x y n
-is-least x y {n} e = go (decLt x y) e
-  where
-    go : Dec (x < y) → n ≡ least x y → Least x y n
-    go (yes h) q =
-        let g : n ≡ x = q ∙ (rw (lt-ltb x y h) refl) in
-        record { left = omega arith; right = omega arith; reached = λ l. absurd (omega arith); above = λ i a b. omega arith }
-    go (no h) q =
-        let g : n ≡ y = q ∙ (rw (le-ltb x y (omega arith)) refl) in
-        record { left = omega arith; right = omega arith; reached = λ l. g; above = λ i a b. omega arith }
 
 -- what whole rows of so many dots within so many units are
 pub record Whole (most columns left w : ℕ) : Type 0 where
@@ -128,21 +110,24 @@ module _ (b : Brush) where
       ∙ ap (later n) (figure-last (most - n - 1) (k + n) (w .d) (w .cursor) (w .mem) (omega arith)))
 
   -- .. over what the calls of the code ensure
+  figure-count : (n k d : ℕ) (c : Cursor) (m : List ℕ) → figureWalk b (k + n - k) k d c m ≡ figureWalk b n k d c m
+  figure-count n k d c m = let e : k + n - k ≡ n = omega arith in rw e
+
   pub figure-stopped : (most k d : ℕ) (c : Cursor) (m : List ℕ) {n : ℕ} {q : Reached} {l : List ℕ}
-      → n ≡ least most (dotsOf (b .drawing) - 1 - k) → led q l ≡ figureWalk b n k d c m → most ≤ n
+      → n ≡ least most (dotsOf (b .drawing) - 1 - k) → led q l ≡ figureWalk b (k + n - k) k d c m → most ≤ n
       → stopsAt n k (led q l) ≡ figureBurst b most k d c m
   figure-stopped most k d c m {n} e f h =
       let v = is-least most (dotsOf (b .drawing) - 1 - k) e in
       let g : n ≡ most = omega (arith, v .left) in
-      ap (stopsAt n k) f ∙ figure-stops n k d c m (v .right) ∙ ap (λ (j : ℕ). figureBurst b j k d c m) g
+      ap (stopsAt n k) (f ∙ figure-count n k d c m) ∙ figure-stops n k d c m (v .right) ∙ ap (λ (j : ℕ). figureBurst b j k d c m) g
 
   pub figure-ended : (most k d : ℕ) (c : Cursor) (m : List ℕ) {n : ℕ} {q : Reached} {l o : List ℕ}
-      → n ≡ least most (dotsOf (b .drawing) - 1 - k) → led q l ≡ figureWalk b n k d c m → n < most
+      → n ≡ least most (dotsOf (b .drawing) - 1 - k) → led q l ≡ figureWalk b (k + n - k) k d c m → n < most
       → o ≡ dotted b (k + n) (q .cursor) l
       → record { count = n + 1; cursor = q .cursor; work = Idle; mem = o } ≡ figureBurst b most k d c m
   figure-ended most k d c m {n} e f h a =
       let v = is-least most (dotsOf (b .drawing) - 1 - k) e in
-      rw a (ap (endsAt n k) f ∙ figure-ends most n k d c m h (v .reached h))
+      rw a (ap (endsAt n k) (f ∙ figure-count n k d c m) ∙ figure-ends most n k d c m h (v .reached h))
 
 -- ---- a character
 module _ (b : Brush) where
@@ -308,22 +293,26 @@ module _ (b : Brush) where
 
   pub rows-done : (most y done : ℕ) (s c : Cursor) (m : List ℕ) {columns rows w : ℕ} {t v : Cursor} {l : List ℕ}
       → rows ≡ rowsIn b → columns ≡ columnsIn b → y + 1 < rows
-      → w ≡ wholeRows most columns (rows - y - 2) → t ≡ nextRow b s → stood v l ≡ rowsWalk b w (y + 1) t m
+      → w ≡ wholeRows most columns (rows - y - 2) → t ≡ nextRow b s → stood v l ≡ rowsWalk b (y + 1 + w - (y + 1)) (y + 1) t m
       → record { count = done + w * columns; cursor = v; work = Character (y + 1 + w) 0 v; mem = l } ≡ later done (afterRow b most y s c m)
   rows-done most y done s c m {columns} {rows} {w} {t} {v} {l} er ec h ew et e =
+      let o : y + 1 + w - (y + 1) ≡ w = omega arith in
       let g : w ≡ wholeRows most C (R - y - 2) = ew ∙ (λ i. wholeRows most (ec i) (er i - y - 2)) in
       ap (later done) ((λ i. record { count = w * ec i; cursor = v; work = Character (y + 1 + w) 0 v; mem = l })
-      ∙ ap (rowsAt w y) (e ∙ ap (λ (z : Cursor). rowsWalk b w (y + 1) z m) et)
+      ∙ ap (rowsAt w y) (e ∙ (λ i. rowsWalk b (o i) (y + 1) (et i) m))
       ∙ ap (λ (j : ℕ). rowsAt j y (rowsWalk b j (y + 1) (nextRow b s) m)) g ∙ rows-some most y s c m (rw (← er) h))
 
+  row-count : (n y x : ℕ) (c : Cursor) (m : List ℕ) → rowWalk b (x + n - x) y x c m ≡ rowWalk b n y x c m
+  row-count n y x c m = let e : x + n - x ≡ n = omega arith in rw e
+
   pub character-stopped : (most y x : ℕ) (s c : Cursor) (m : List ℕ) {n : ℕ} {v : Cursor} {l : List ℕ}
-      → n ≡ least most (columnsIn b - 1 - x) → stood v l ≡ rowWalk b n y x c m → most ≤ n
+      → n ≡ least most (columnsIn b - 1 - x) → stood v l ≡ rowWalk b (x + n - x) y x c m → most ≤ n
       → standsAt n y x s (stood v l) ≡ characterBurst b (rowsAhead most y x (rowsIn b) (columnsIn b)) y x s c m
-  character-stopped most y x s c m {n} e f h = ap (standsAt n y x s) f ∙ character-stops most n y x s c m e h
+  character-stopped most y x s c m {n} e f h = ap (standsAt n y x s) (f ∙ row-count n y x c m) ∙ character-stops most n y x s c m e h
 
   pub character-went : (most y x : ℕ) (s c : Cursor) (m : List ℕ) {n : ℕ} {v : Cursor} {l o : List ℕ} {q : Drawn}
-      → n ≡ least most (columnsIn b - 1 - x) → stood v l ≡ rowWalk b n y x c m → n < most
+      → n ≡ least most (columnsIn b - 1 - x) → stood v l ≡ rowWalk b (x + n - x) y x c m → n < most
       → o ≡ lettered b y (x + n) v l → q ≡ later (n + 1) (afterRow b (most - n - 1) y s v o)
       → q ≡ characterBurst b (rowsAhead most y x (rowsIn b) (columnsIn b)) y x s c m
   character-went most y x s c m {n} e f h a i =
-      rw (i, a) (ap (endsRow most n y x s) f ∙ character-rows most n y x s c m e h)
+      rw (i, a) (ap (endsRow most n y x s) (f ∙ row-count n y x c m) ∙ character-rows most n y x s c m e h)

@@ -9,10 +9,11 @@ use Rattle.dots.specs.declared.Cursor.{Cursor}
 use Rattle.dots.specs.Step.{stepOf}
 use Rattle.registers.specs.Size.{dotsOf}
 use Rattle.figures.specs.Figure.{directionAt, runningD}
-use Rattle.bursts.specs.declared.Brush.{Brush}
-use Rattle.bursts.specs.Burst.{Drawn, dotted, figureBurst, rowsIn, columnsIn, lettered, nextRow, characterBurst, least, wholeRows}
-use Rattle.bursts.specs.Burst.{rowsAhead}
-use Rattle.bursts.proofs.BurstLaws.{is-least, is-whole, figure-goes, figure-last, character-goes, character-turns, character-last}
+use Rattle.walks.specs.declared.Brush.{Brush}
+use Rattle.walks.specs.Walk.{least, dotted, rowsIn, columnsIn, lettered, nextRow}
+use Rattle.walks.proofs.LeastLaws.{is-least}
+use Rattle.bursts.specs.Burst.{Drawn, figureBurst, characterBurst, wholeRows, rowsAhead}
+use Rattle.bursts.proofs.BurstLaws.{is-whole, figure-goes, figure-last, character-goes, character-turns, character-last}
 
 pub record Counted (n i : ℕ) : Type 0 where
   pub some : 0 < n → 0 < i

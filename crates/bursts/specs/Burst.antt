@@ -1,18 +1,17 @@
 -- Units of a figure or a character one after another: as many as there may be, or up to its end. Each is a unit of figures/specs, on what
 -- it reads and moves: the registers that stay (the brush), the cursor, what is in progress, and memory.
-use Prim.Native.Nat.{ℕ, zero, suc, _+_, _-_, _*_, _/_, _%_}
+use Prim.Native.Nat.{ℕ, zero, suc, _+_, _-_, _*_, _/_}
 use mathlib.Core.Bool.{cond}
 use mathlib.Core.List.{List}
 use lib.Dec.{eqb, ltb}
 use Rattle.dots.specs.declared.Cursor.{Cursor}
 use Rattle.dots.specs.Step.{stepOf}
-use Rattle.dots.specs.Cycle.{cycled}
 use Rattle.registers.specs.declared.Work.{Work}
 use Rattle.registers.specs.declared.Work.the-variants.{Idle, Figure, Character}
-use Rattle.registers.specs.Size.{dotsOf, factorOf, rowsOf, columnsOf}
-use Rattle.figures.specs.Figure.{patternAt, directionAt, runningD}
-use Rattle.figures.specs.Character.{characterPattern}
-use Rattle.bursts.specs.declared.Brush.{Brush}
+use Rattle.registers.specs.Size.{dotsOf}
+use Rattle.figures.specs.Figure.{directionAt, runningD}
+use Rattle.walks.specs.declared.Brush.{Brush}
+use Rattle.walks.specs.Walk.{least, dotted, rowsIn, columnsIn, lettered, nextRow}
 use Rattle.bursts.specs.declared.Burst.{Burst}
 
 -- what a burst answers, with the memory that it leaves
@@ -29,10 +28,6 @@ burst q m = record { count = q .count; cursor = q .cursor; work = q .work; mem =
 abbrev pub later : ℕ → Drawn → Drawn
 later n q = record { count = n + q .count; cursor = q .cursor; work = q .work; mem = q .mem }
 
--- "dot k uses bit k mod 16 of the pattern", by one cycle
-abbrev pub dotted : Brush → ℕ → Cursor → List ℕ → List ℕ
-dotted b k c m = cycled (b .op) (patternAt (b .ram) k) c m
-
 -- "One step between consecutive dots, none after the last; .. the figure ends in its last dot's unit."
 unfoldable pub figureBurst : Brush → ℕ → ℕ → ℕ → Cursor → List ℕ → Drawn
 figureBurst b zero k d c m = record { count = 0; cursor = c; work = Figure k d; mem = m }
@@ -40,19 +35,6 @@ figureBurst b (suc n) k d c m =
     cond (ltb (k + 1) (dotsOf (b .drawing)))
     (later 1 (figureBurst b n (k + 1) (runningD (b .drawing) d) (stepOf (directionAt (b .drawing) k d) (b .pitch) c) (dotted b k c m)))
     (record { count = 1; cursor = c; work = Idle; mem = dotted b k c m })
-
--- a character: its rows, its dots of a row, one cycle at a dot, and the next row's start
-abbrev pub rowsIn : Brush → ℕ
-rowsIn b = rowsOf (b .drawing) (b .zoom)
-
-abbrev pub columnsIn : Brush → ℕ
-columnsIn b = columnsOf (b .drawing) (b .zoom)
-
-abbrev pub lettered : Brush → ℕ → ℕ → Cursor → List ℕ → List ℕ
-lettered b row column c m = cycled (b .op) (characterPattern (b .ram) (factorOf (b .zoom)) row column) c m
-
-abbrev pub nextRow : Brush → Cursor → Cursor
-nextRow b start = stepOf ((b .drawing .dir + 2) % 8) (b .pitch) start
 
 -- "each row runs along DIR from its start; the next start is one step along DIR + 2"
 unfoldable pub characterBurst : Brush → ℕ → ℕ → ℕ → Cursor → Cursor → List ℕ → Drawn
@@ -66,9 +48,6 @@ characterBurst b (suc n) row column start c m =
 
 -- how many units of a character are done at once: the dots of the row before its last; then, where there may be more, that last one and
 -- as many whole rows before the character's last as there may be
-abbrev pub least : ℕ → ℕ → ℕ
-least a b = cond (ltb a b) a b
-
 abbrev pub dotsAhead : ℕ → ℕ → ℕ → ℕ
 dotsAhead most k all = least most (all - 1 - k)
 
@@ -83,3 +62,10 @@ rowsAhead most row column rows columns =
     cond (ltb (dotsAhead most column columns) most)
     (dotsAhead most column columns + 1 + rowsOn (dotsAhead most column columns) most row rows columns * columns)
     (dotsAhead most column columns)
+
+-- what comes after a row's last dot: whole rows, as many as there may be, or nothing more
+unfoldable pub afterRow : Brush → ℕ → ℕ → Cursor → Cursor → List ℕ → Drawn
+afterRow b most row start c m =
+    cond (ltb (row + 1) (rowsIn b))
+    (characterBurst b (wholeRows most (columnsIn b) (rowsIn b - row - 2) * columnsIn b) (row + 1) 0 (nextRow b start) (nextRow b start) m)
+    (record { count = 0; cursor = c; work = Idle; mem = m })

@@ -1,3 +1,1 @@
 pub mod Burst
-pub mod Walk
-pub mod Address

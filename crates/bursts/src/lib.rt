@@ -1,49 +1,19 @@
-// Many units of a figure or a character at once.
+// Many units of a figure or a character at once: a walk over the dots before the last, then the last with what it ends.
 use dots::Cursor;
-use dots::Operation;
-use registers::Drawing;
 use registers::Work;
+use walks::Brush;
+use walks::least_of;
+use walks::next_row;
 ghost use mathlib.Core.Path.{_≡_};
 ghost use Prim.Native.Nat.{_+_, _-_, _<_};
-ghost use Rattle.bursts.specs.Burst.{burst, later, figureBurst, characterBurst, rowsIn, columnsIn, nextRow, least};
-ghost use Rattle.bursts.specs.Burst.{wholeRows};
-ghost use Rattle.bursts.specs.Burst.{rowsAhead};
-ghost use Rattle.bursts.specs.Walk.{led, stood, figureWalk, rowWalk, rowsWalk, afterRow};
-
-mod bits;
-mod line;
-mod side;
-mod steps;
-
-// The registers that a figure or a character is drawn with; its units leave them as they are.
-pub struct Brush {
-    pub op: Operation,
-    pub ram: [u8; 16],
-    pub drawing: Drawing,
-    pub zoom: u8,
-    pub pitch: u8,
-}
+ghost use Rattle.walks.specs.Walk.{rowsIn, columnsIn};
+ghost use Rattle.bursts.specs.Burst.{burst, later, figureBurst, characterBurst, wholeRows, rowsAhead, afterRow};
 
 // How many units were done, where they led, and what is in progress then.
 pub struct Burst {
     pub count: u32,
     pub cursor: Cursor,
     pub work: Work,
-}
-
-// Where dots of a figure led, and the running D.
-struct Reached {
-    cursor: Cursor,
-    d: u16,
-}
-
-fn least_of(a: u32, b: u32) -> u32
-    ensures { λ n. ⌜ n ≡ least a b ⌝ }
-{
-    if a < b {
-        return a;
-    }
-    b
 }
 
 // The dots from dot k on, before the last of all.
@@ -56,30 +26,16 @@ fn before_last(k: u32, all: u32) -> u32
     0
 }
 
-// n dots of a figure from dot k on: by bit addresses where the mask is one bit.
-fn figure_dots(mem: &mut [u16], b: Brush, c: Cursor, d: u16, k: u32, n: u32) -> Reached
-    requires { ⌜ k + n < 4294967296 ⌝ }
-    ensures { λ q. ⌜ led q (now (mem .exit)) ≡ figureWalk b n k d c (now (mem .entry)) ⌝ }
-{
-    let at = bits::address_of(c);
-    if 4194304 <= at {
-        return steps::plain_dots(mem, b, c, d, k, n);
-    }
-    if b.drawing.kind == registers::LINE_KIND {
-        return line::line_dots(mem, b, at, d, k, n);
-    }
-    side::side_dots(mem, b, at, d, k, n)
-}
-
 // At most so many units of the figure whose dot k is next, with its running D.
 pub fn figure(mem: &mut [u16], b: Brush, c: Cursor, k: u32, d: u16, most: u32) -> Burst
     ensures { λ q. ⌜ burst q (now (mem .exit)) ≡ figureBurst b most k d c (now (mem .entry)) ⌝ }
 {
     let n = least_of(most, before_last(k, registers::dots_of(b.drawing)));
-    let q = figure_dots(mem, b, c, d, k, n);
+    let end = k + n;
+    let q = walks::figure_dots(mem, b, c, d, k, end);
     let at = q.cursor;
     if n < most {
-        steps::dot(mem, b, at, k + n);
+        walks::steps::dot(mem, b, at, end);
         return Burst {
             count: n + 1,
             cursor: at,
@@ -89,43 +45,8 @@ pub fn figure(mem: &mut [u16], b: Brush, c: Cursor, k: u32, d: u16, most: u32) -
     Burst {
         count: n,
         cursor: at,
-        work: Work::Figure { dot: k + n, d: q.d },
+        work: Work::Figure { dot: end, d: q.d },
     }
-}
-
-// n dots of row y from dot x on: by bit addresses where the mask is one bit and the character not enlarged.
-fn row_dots(mem: &mut [u16], b: Brush, y: u32, x: u32, from: Cursor, n: u32) -> Cursor
-    requires { ⌜ x + n < 4294967296 ⌝ }
-    ensures { λ q. ⌜ stood q (now (mem .exit)) ≡ rowWalk b n y x from (now (mem .entry)) ⌝ }
-{
-    let at = bits::address_of(from);
-    if at < 4194304 {
-        if registers::factor_of(b.zoom) == 1 {
-            return bits::cursor_at(side::row_bits(mem, b, y, x, at, n));
-        }
-    }
-    steps::plain_row(mem, b, y, x, from, n)
-}
-
-// n whole rows from row y on, likewise.
-fn rows_dots(mem: &mut [u16], b: Brush, y: u32, from: Cursor, n: u32) -> Cursor
-    requires { ⌜ y + n < 4294967296 ⌝ }
-    ensures { λ q. ⌜ stood q (now (mem .exit)) ≡ rowsWalk b n y from (now (mem .entry)) ⌝ }
-{
-    let at = bits::address_of(from);
-    if at < 4194304 {
-        if registers::factor_of(b.zoom) == 1 {
-            return bits::cursor_at(side::rows_bits(mem, b, y, at, n));
-        }
-    }
-    steps::plain_rows(mem, b, y, from, n)
-}
-
-// Where the next row starts.
-fn next_row(b: Brush, start: Cursor) -> Cursor
-    ensures { λ c. ⌜ c ≡ nextRow b start ⌝ }
-{
-    dots::step(((b.drawing.dir as u16 + 2) % 8) as u8, b.pitch, start)
 }
 
 // The whole rows that so many units have room for, at most those left.
@@ -161,12 +82,14 @@ fn after_row(
     }
     let columns = registers::columns_of(b.drawing, b.zoom);
     let whole = whole_rows(most, columns, rows - row - 2);
-    let s = rows_dots(mem, b, row + 1, next_row(b, start), whole);
+    let first = row + 1;
+    let end = first + whole;
+    let s = walks::rows_dots(mem, b, first, next_row(b, start), end);
     Burst {
         count: done + whole * columns,
         cursor: s,
         work: Work::Character {
-            row: row + 1 + whole,
+            row: end,
             column: 0,
             start: s,
         },
@@ -190,18 +113,19 @@ pub fn character(
         most,
         before_last(column, registers::columns_of(b.drawing, b.zoom)),
     );
-    let at = row_dots(mem, b, row, column, c, n);
+    let end = column + n;
+    let at = walks::row_dots(mem, b, row, column, c, end);
     if most <= n {
         return Burst {
             count: n,
             cursor: at,
             work: Work::Character {
                 row: row,
-                column: column + n,
+                column: end,
                 start: start,
             },
         };
     }
-    steps::letter(mem, b, at, row, column + n);
+    walks::steps::letter(mem, b, at, row, end);
     after_row(mem, b, at, row, start, n + 1, most - n - 1)
 }

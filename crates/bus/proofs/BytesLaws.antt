@@ -1,11 +1,12 @@
 -- A byte to a port and from one, by the plain numbers, is what the controller answers: a set that does not fit is refused with 1; of one
--- that fits the plain numbers stay, but for the buffer. True since formed plain numbers are those of the set that they give.
+-- that fits the plain numbers stay, but for the buffer and, of RESET and of a command in read mode, what these end. True since formed plain
+-- numbers are those of the set that they give.
 use Prim.Native.Nat.{ℕ, zero, suc, _+_, _%_, _≤_}
 use mathlib.Core.Path.{_≡_, refl, sym, ap, _∙_}
 use mathlib.Core.Bool.{Bool, true, false, cond, not, _&&_, _||_}
 use native.Mathlib.Omega.{arith}
 use lib.Dec.{eqb, ltb, leb}
-use borrow.Author.Tests.{ltb-false, leb-false, eqb-false, ne-eqb}
+use borrow.Author.Tests.{ltb-false, leb-false, eqb-false, eq-eqb, ne-eqb}
 use Rattle.registers.specs.declared.Mode.{Mode}
 use Rattle.registers.specs.declared.Mode.the-variants.{Write, Read}
 use Rattle.registers.specs.declared.Buffer.{Buffer}
@@ -17,8 +18,8 @@ use Rattle.registers.proofs.BoolLaws.{false-true}
 use Rattle.processor.specs.Command.{resetDone}
 use Rattle.ports.specs.declared.Answer.{Answer}
 use Rattle.ports.specs.Port.{granted, refused, queued, queuedOr3, commandIn, commandWritten, parameterIn, parameterWritten, byteIn}
-use Rattle.ports.specs.Port.{byteRead}
-use Rattle.ports.specs.Port.{statusOf, statusRead, figureInProgressB, readModeB}
+use Rattle.ports.specs.Port.{byteRead, statusRead}
+use Rattle.status.specs.Status.{statusOf, figureInProgressB, readModeB}
 use Rattle.sending.specs.Send.{written}
 use Rattle.plain.specs.declared.PlainWork.{PlainWork}
 use Rattle.plain.specs.declared.PlainRegisters.{PlainRegisters}
@@ -31,7 +32,7 @@ use Rattle.bus.specs.declared.PlainAnswer.{PlainAnswer}
 use Rattle.bus.specs.declared.Held.{Held}
 use Rattle.bus.specs.Asked.{answerPlain, refusedPlain, asked, readFrom}
 use Rattle.bus.specs.Bytes.{turnsB, held, queuedBuffer, queuedHeld, heldWritten, fitB, writtenHeld, heldRead, readHeld}
-use Rattle.bus.specs.Bytes.{withBuffer, answerHeld}
+use Rattle.bus.specs.Bytes.{withBuffer, answerHeld, grantedPlain, resetPlain, turnedPlain, commandPlain}
 
 -- ---- the set itself, and the set with another buffer
 module _ (p : PlainRegisters) (s : plainFormB p ≡ true) where
@@ -77,17 +78,24 @@ inside : {A : Type 0} (t u : Bool) (x y z : A) → cond t (cond u x z) (cond u y
 inside true u x y z = refl
 inside false u x y z = refl
 
-ported : (p : PlainRegisters) (h : Held) (a : Answer)
-    → (plainFormB p ≡ true → answerHeld p h ≡ answerPlain a)
-    → answerHeld p (cond (fitB p) h (held 1 0 (p .buffer))) ≡ asked p (cond (soundB (fromPlain p)) a (refused 1 (fromPlain p)))
-ported p h a f = go (plainFormB p) (soundB (fromPlain p)) refl
-  where
-    go : (t u : Bool) → plainFormB p ≡ t
-        → answerHeld p (cond (t && u) h (held 1 0 (p .buffer)))
-        ≡ cond t (answerPlain (cond u a (refused 1 (fromPlain p)))) (refusedPlain p)
-    go true true e = f e
-    go true false e = same-there p e 1 0
-    go false u e = refl
+module _ (p : PlainRegisters) where
+  let-in : (x : PlainAnswer) (a : Answer) → (plainFormB p ≡ true → x ≡ answerPlain a)
+      → cond (fitB p) x (refusedPlain p) ≡ asked p (cond (soundB (fromPlain p)) a (refused 1 (fromPlain p)))
+  let-in x a f = go (plainFormB p) (soundB (fromPlain p)) refl
+    where
+      go : (t u : Bool) → plainFormB p ≡ t
+          → cond (t && u) x (refusedPlain p) ≡ cond t (answerPlain (cond u a (refused 1 (fromPlain p)))) (refusedPlain p)
+      go true true e = f e
+      go true false e = same-there p e 1 0
+      go false u e = refl
+
+  ported : (h : Held) (a : Answer) → (plainFormB p ≡ true → answerHeld p h ≡ answerPlain a)
+      → answerHeld p (cond (fitB p) h (held 1 0 (p .buffer))) ≡ asked p (cond (soundB (fromPlain p)) a (refused 1 (fromPlain p)))
+  ported h a f = go (fitB p) ∙ let-in (answerHeld p h) a f
+    where
+      go : (t : Bool) → answerHeld p (cond t h (held 1 0 (p .buffer))) ≡ cond t (answerHeld p h) (refusedPlain p)
+      go true = refl
+      go false = refl
 
 -- ---- a byte is written
 abbrev writtenIn : Registers → ℕ → Answer
@@ -181,6 +189,55 @@ module _ (p : PlainRegisters) (e : ℕ) where
           ≡ asked p (cond t (parameterWritten (fromPlain p) e) (commandWritten (fromPlain p) (e % 256)))
       go true q = absurd (false-true q)
       go false q = refl
+
+-- ---- a command byte
+module _ (p : PlainRegisters) (b : ℕ) where
+  command-there : plainFormB p ≡ true
+      → cond (eqb b 0) (grantedPlain (resetPlain p))
+      (cond (eqb (p .mode) 0) (answerHeld p (queuedHeld (p .buffer) (b + 256))) (grantedPlain (turnedPlain p (b + 256))))
+      ≡ answerPlain (cond (eqb b 0) (granted 0 (resetDone (fromPlain p))) (commandIn (fromPlain p .mode) (fromPlain p) b))
+  unfolding fromPlain toPlain resetDone
+  command-there s = go (eqb b 0) (eqb (p .mode) 0)
+    where
+      go : (t u : Bool)
+          → cond t (grantedPlain (resetPlain p))
+          (cond u (answerHeld p (queuedHeld (p .buffer) (b + 256))) (grantedPlain (turnedPlain p (b + 256))))
+          ≡ answerPlain (cond t (granted 0 (resetDone (fromPlain p))) (commandIn (cond u Write Read) (fromPlain p) b))
+      go true u = λ i. grantedPlain (resetPlain (sym (to-from p s) i))
+      go false true = queue-there p s (b + 256)
+      go false false = λ i. grantedPlain (turnedPlain (sym (to-from p s) i) (b + 256))
+
+  commands : commandPlain p b ≡ asked p (commandWritten (fromPlain p) b)
+  unfolding commandWritten
+  commands =
+      let-in p
+      (cond (eqb b 0) (grantedPlain (resetPlain p))
+      (cond (eqb (p .mode) 0) (answerHeld p (queuedHeld (p .buffer) (b + 256))) (grantedPlain (turnedPlain p (b + 256)))))
+      (cond (eqb b 0) (granted 0 (resetDone (fromPlain p))) (commandIn (fromPlain p .mode) (fromPlain p) b)) command-there
+
+  abbrev kept : PlainAnswer
+  kept = answerHeld p (queuedHeld (p .buffer) (b + 256))
+
+  abbrev ended : PlainAnswer
+  ended = grantedPlain (turnedPlain p (b + 256))
+
+  by-case : {t u v : Bool} → t ≡ fitB p → u ≡ eqb b 0 → v ≡ eqb (p .mode) 0
+      → cond t (cond u (grantedPlain (resetPlain p)) (cond v kept ended)) (refusedPlain p) ≡ asked p (commandWritten (fromPlain p) b)
+  by-case e f g =
+      (λ i. cond (e i) (cond (f i) (grantedPlain (resetPlain p)) (cond (g i) kept ended)) (refusedPlain p)) ∙ commands
+
+  -- a set that does not fit; RESET; a command in read mode; one in write mode
+  pub turned-away : fitB p ≡ false → refusedPlain p ≡ asked p (commandWritten (fromPlain p) b)
+  turned-away e = by-case (sym e) refl refl
+
+  pub resets : fitB p ≡ true → b ≡ 0 → grantedPlain (resetPlain p) ≡ asked p (commandWritten (fromPlain p) b)
+  resets e z = by-case (sym e) (sym (eq-eqb b 0 z)) refl
+
+  pub turns-back : fitB p ≡ true → (b ≡ 0 → ⊥) → (p .mode ≡ 0 → ⊥) → ended ≡ asked p (commandWritten (fromPlain p) b)
+  turns-back e z m = by-case (sym e) (sym (ne-eqb b 0 z)) (sym (ne-eqb (p .mode) 0 m))
+
+  pub queues : fitB p ≡ true → (b ≡ 0 → ⊥) → p .mode ≡ 0 → kept ≡ asked p (commandWritten (fromPlain p) b)
+  queues e z m = by-case (sym e) (sym (ne-eqb b 0 z)) (sym (eq-eqb (p .mode) 0 m))
 
 -- ---- a port is read
 module _ (p : PlainRegisters) (k : ℕ) where

@@ -1,21 +1,24 @@
 -- A byte to a port and from one, of the plain numbers: what is answered, and the buffer then, where nothing else changes.
-use Prim.Native.Nat.{ℕ, _%_}
+use Prim.Native.Nat.{ℕ, _+_, _%_}
 use mathlib.Core.Bool.{Bool, false, cond, not, _&&_, _||_}
 use lib.Dec.{eqb, ltb, leb}
-use Rattle.registers.specs.Width.{places}
+use Rattle.registers.specs.declared.Work.the-variants.{Idle}
+use Rattle.registers.specs.Width.{places, commandMark}
+use Rattle.registers.specs.Fresh.{emptyBuffer}
 use Rattle.registers.specs.Sound.{soundB}
 use Rattle.registers.specs.Buffer.{pushed, oldest, popped}
-use Rattle.ports.specs.Port.{statusOf}
+use Rattle.status.specs.Status.{statusOf}
 use Rattle.plain.specs.declared.PlainBuffer.{PlainBuffer}
+use Rattle.plain.specs.declared.PlainVideo.{PlainVideo}
 use Rattle.plain.specs.declared.PlainRegisters.{PlainRegisters}
-use Rattle.plain.specs.Parts.{bufferOf, bufferPlain}
+use Rattle.plain.specs.Parts.{bufferOf, bufferPlain, workPlain}
 use Rattle.plain.specs.Form.{plainFormB}
 use Rattle.plain.specs.Mirror.{fromPlain}
 use Rattle.bus.specs.declared.PlainAnswer.{PlainAnswer}
 use Rattle.bus.specs.declared.Held.{Held}
+use Rattle.bus.specs.Asked.{refusedPlain}
 
--- what goes through the controller, since it acts on more than the buffer: RESET, and any command in read mode; and an entry past
--- nine bits
+-- what acts on more than the buffer: RESET, and any command in read mode; and an entry past nine bits
 abbrev pub turnsB : ℕ → ℕ → Bool
 turnsB m e = cond (ltb e 256) false (not (eqb m 0) || eqb e 256 || leb 512 e)
 
@@ -69,3 +72,51 @@ withBuffer p b =
 
 abbrev pub answerHeld : PlainRegisters → Held → PlainAnswer
 answerHeld p h = record { number = h .number; value = h .value; regs = withBuffer p (h .buffer) }
+
+-- a command byte: RESET, with "buffer emptied, write mode, figure or read ended where it stands, display off"
+abbrev pub grantedPlain : PlainRegisters → PlainAnswer
+grantedPlain p = record { number = 0; value = 0; regs = p }
+
+abbrev pub hidden : PlainVideo → PlainVideo
+hidden v = record { zoom = v .zoom; display = 0; vsync = v .vsync; sync = v .sync; cchar = v .cchar }
+
+abbrev pub resetPlain : PlainRegisters → PlainRegisters
+resetPlain p =
+    record {
+      cursor = p .cursor;
+      pitch = p .pitch;
+      drawing = p .drawing;
+      op = p .op;
+      ram = p .ram;
+      video = hidden (p .video);
+      pen = p .pen;
+      mode = 0;
+      buffer = bufferPlain emptyBuffer;
+      progress = record { command = 1; transfer = 0; next = 0; low = 0 };
+      work = workPlain Idle;
+    }
+
+-- .. in read mode, where all read data is discarded and the read ended
+abbrev pub turnedPlain : PlainRegisters → ℕ → PlainRegisters
+turnedPlain p e =
+    record {
+      cursor = p .cursor;
+      pitch = p .pitch;
+      drawing = p .drawing;
+      op = p .op;
+      ram = p .ram;
+      video = p .video;
+      pen = p .pen;
+      mode = 0;
+      buffer = queuedBuffer (bufferPlain emptyBuffer) e;
+      progress = p .progress;
+      work = workPlain Idle;
+    }
+
+-- .. and in write mode, as any entry
+abbrev pub commandPlain : PlainRegisters → ℕ → PlainAnswer
+commandPlain p b =
+    cond (fitB p)
+    (cond (eqb b 0) (grantedPlain (resetPlain p))
+    (cond (eqb (p .mode) 0) (answerHeld p (queuedHeld (p .buffer) (b + commandMark))) (grantedPlain (turnedPlain p (b + commandMark)))))
+    (refusedPlain p)

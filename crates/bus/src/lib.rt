@@ -1,12 +1,18 @@
 // A byte to a port and from one, by the plain numbers: where the buffer alone changes, nothing else is converted or touched.
 use plain::PlainBuffer;
+use plain::PlainProgress;
 use plain::PlainRegisters;
+use registers::Work;
 ghost use mathlib.Core.Path.{_≡_};
 ghost use Rattle.plain.specs.Mirror.{fromPlain};
 ghost use Rattle.sending.specs.Send.{written};
-ghost use Rattle.ports.specs.Port.{commandWritten, statusOf};
+ghost use Rattle.status.specs.Status.{statusOf};
+ghost use Rattle.ports.specs.Port.{commandWritten};
 ghost use Rattle.bus.specs.Asked.{answerPlain, refusedPlain, asked, readFrom};
 ghost use Rattle.bus.specs.Bytes.{
+  grantedPlain,
+  resetPlain,
+  turnedPlain,
   turnsB,
   queuedBuffer,
   heldWritten,
@@ -46,16 +52,6 @@ pub fn refuse(p: PlainRegisters) -> PlainAnswer
     }
 }
 
-// A byte to the command port, through the controller.
-pub fn command(r: PlainRegisters, byte: u8) -> PlainAnswer
-    ensures { λ q. ⌜ q ≡ asked r (commandWritten (fromPlain r) byte) ⌝ }
-{
-    if !plain::form::formed(r) {
-        return refuse(r);
-    }
-    answer_plain(ports::write_command(plain::convert::from_plain(r), byte))
-}
-
 // What a port answers that changes the buffer alone.
 struct Held {
     number: u8,
@@ -63,8 +59,7 @@ struct Held {
     buffer: PlainBuffer,
 }
 
-// What goes through the controller, since it acts on more than the buffer: RESET, and any command in read mode; and an entry past
-// nine bits.
+// What acts on more than the buffer: RESET, and any command in read mode; and an entry past nine bits.
 fn turns(mode: u8, e: u16) -> bool
     ensures { λ t. ⌜ t ≡ turnsB mode e ⌝ }
 {
@@ -105,12 +100,84 @@ fn held_written(mode: u8, b: PlainBuffer, e: u16) -> Held
     }
 }
 
+// After RESET: "buffer emptied, write mode, figure or read ended where it stands, display off".
+fn reset_plain(p: PlainRegisters) -> PlainRegisters
+    ensures { λ n. ⌜ n ≡ resetPlain p ⌝ }
+{
+    let work = plain::parts::work_plain(Work::Idle);
+    let buffer = plain::parts::buffer_plain(processor::command::no_entries());
+    let progress = PlainProgress {
+        command: 1,
+        transfer: 0,
+        next: 0,
+        low: 0,
+    };
+    let mut n = p;
+    n.video.display = 0;
+    n.mode = 0;
+    n.buffer = buffer;
+    n.progress = progress;
+    n.work = work;
+    n
+}
+
+// A command in read mode: write mode, all read data discarded and the read ended, and the command in the buffer.
+fn turned_plain(p: PlainRegisters, e: u16) -> PlainRegisters
+    ensures { λ n. ⌜ n ≡ turnedPlain p e ⌝ }
+{
+    let work = plain::parts::work_plain(Work::Idle);
+    let buffer = queue(
+        plain::parts::buffer_plain(processor::command::no_entries()),
+        e,
+    );
+    let mut n = p;
+    n.mode = 0;
+    n.buffer = buffer;
+    n.work = work;
+    n
+}
+
+fn grant(p: PlainRegisters) -> PlainAnswer
+    ensures { λ q. ⌜ q ≡ grantedPlain p ⌝ }
+{
+    PlainAnswer {
+        number: 0,
+        value: 0,
+        regs: p,
+    }
+}
+
+// A byte to the command port.
+pub fn command(r: PlainRegisters, byte: u8) -> PlainAnswer
+    ensures { λ q. ⌜ q ≡ asked r (commandWritten (fromPlain r) byte) ⌝ }
+{
+    if !forms::fits(r) {
+        return refuse(r);
+    }
+    if byte == 0 {
+        return grant(reset_plain(r));
+    }
+    let e = byte as u16 + registers::COMMAND_MARK;
+    if r.mode != 0 {
+        return grant(turned_plain(r, e));
+    }
+    let held = held_written(0, r.buffer, e);
+    let buffer = held.buffer;
+    let mut n = r;
+    n.buffer = buffer;
+    PlainAnswer {
+        number: held.number,
+        value: held.value,
+        regs: n,
+    }
+}
+
 // The same of a set that may be unsound, or none.
 fn written_held(p: PlainRegisters, e: u16) -> Held
     ensures { λ h. ⌜ h ≡ writtenHeld p e ⌝ }
 {
     let held = p.buffer;
-    if plain::fit::fits(p) {
+    if forms::fits(p) {
         return held_written(p.mode, held, e);
     }
     Held {
@@ -150,7 +217,7 @@ fn status_plain(p: PlainRegisters) -> u8
     ensures { λ v. ⌜ v ≡ statusOf (fromPlain p) ⌝ }
 {
     let drawing = (p.work.kind == 1) | (p.work.kind == 2);
-    ports::status_by(
+    status::status_by(
         plain::numbers::bit_of(p.pen.set),
         drawing,
         p.buffer.count,
@@ -184,7 +251,7 @@ fn read_held(p: PlainRegisters, port: u8) -> Held
     ensures { λ h. ⌜ h ≡ readHeld p port ⌝ }
 {
     let held = p.buffer;
-    if !plain::fit::fits(p) {
+    if !forms::fits(p) {
         return Held {
             number: 1,
             value: 0,

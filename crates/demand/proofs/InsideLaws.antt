@@ -25,8 +25,8 @@ use Rattle.records.specs.declared.Refusal.the-variants.{Form, GlyphNumber, Fact
 use Rattle.records.specs.Decode.{point, recordFormB, knownB, factorB, figureOf, decodedOf, decodedAt}
 use Rattle.records.specs.Inside.{pointB, insideB, judged}
 use Rattle.records.proofs.FormLaws.{Formed, form-means, factor-means, else-glyph}
-use Rattle.sheets.specs.Slots.{placeOf, usedB, slotDecoded, figuresIn, slotFigures, figuresFrom, figures}
-use Rattle.sheets.specs.Sheet.{roomOf}
+use Rattle.refusals.specs.Refusals.{roomOf, placeOf, usedB, slotDecoded}
+use Rattle.sheets.specs.Slots.{figuresIn, slotFigures, figuresFrom, figures}
 use Rattle.demand.specs.Picture.{figureOn}
 
 -- a glyph's factor is 1 to 16, and its square lies in the plane

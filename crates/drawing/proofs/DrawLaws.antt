@@ -17,10 +17,11 @@ use Rattle.sheets.specs.Sheet.{Outcome as Translated, outcome as translated}
 use Rattle.entries.proofs.PutLaws.{placed-length}
 use Rattle.sheets.proofs.SheetLaws.{translated-means}
 use Rattle.drawing.specs.declared.Drawn.{Drawn}
-use Rattle.sends.specs.declared.Sent.{Sent}
+use Rattle.finishing.specs.declared.Sent.{Sent}
+use Rattle.finishing.specs.Finish.{leftAt, finished}
+use Rattle.finishing.specs.Finish.{Outcome as Sending, outcome as sending}
 use Rattle.sends.specs.declared.Listed.{Listed}
-use Rattle.sends.specs.Sends.{leftAt, finished, listed, listSent}
-use Rattle.sends.specs.Sends.{Outcome as Sending, outcome as sending}
+use Rattle.sends.specs.Sends.{listed, listSent}
 use Rattle.drawing.specs.Draw.{Outcome, outcome, refusal, allSent, drawnBy, largerB, sheetDrawn}
 
 module _ (sheet : List ℕ) (p h : ℕ) (glyphs : List ℕ) (r : Registers) (entries mem : List ℕ) where

@@ -18,9 +18,10 @@ use Rattle.units.specs.Run.{lengthB}
 use Rattle.ports.specs.Port.{turnedBack}
 use Rattle.records.specs.declared.Record.{Record}
 use Rattle.blocks.specs.declared.Answer.{Answer}
+use Rattle.refusals.specs.Refusals.{planeB, roomOf}
 use Rattle.sheets.specs.Slots.{translated, translation}
 use Rattle.sheets.specs.Slots.{figures as slotFigures}
-use Rattle.sheets.specs.Sheet.{planeB, roomOf, figuresOf, translateDef}
+use Rattle.sheets.specs.Sheet.{figuresOf, translateDef}
 use Rattle.sheets.proofs.SlotLaws.{translation-length, figures-few}
 use Rattle.sheets.proofs.SheetLaws.{translated-means}
 use Rattle.laws.proofs.KeptLaws.{SoundSet, lawful, lawful-sound, lawful-typed}
@@ -29,9 +30,10 @@ use Rattle.sending.proofs.WaitLaws.{Waiting, waiting, waiting-ready}
 use Rattle.sending.proofs.ReadLaws.{turned-waits, pitch-turns}
 use Rattle.demand.specs.Shown.{Shown, Bytes}
 use Rattle.demand.proofs.Whole.{taken-out, picture-is-right}
-use Rattle.sends.specs.Sends.{leftAt, unmoved, finished, mostListed, listSent}
-use Rattle.sends.specs.Sends.{Outcome as Sending}
-use Rattle.sends.proofs.FinishLaws.{finishes, stands, waits-already}
+use Rattle.finishing.specs.Finish.{leftAt, unmoved, finished}
+use Rattle.finishing.specs.Finish.{Outcome as Sending}
+use Rattle.finishing.proofs.FinishLaws.{finishes, stands, waits-already}
+use Rattle.sends.specs.Sends.{mostListed, listSent}
 use Rattle.sends.proofs.SendLaws.{accepted-listed}
 use Rattle.drawing.specs.declared.Drawn.{Drawn}
 use Rattle.drawing.specs.Draw.{Outcome, outcome, allSent, largerB, sheetDrawn}

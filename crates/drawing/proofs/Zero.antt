@@ -12,7 +12,8 @@ use Rattle.registers.specs.declared.Registers.{Registers}
 use Rattle.registers.specs.Sound.{soundB}
 use Rattle.units.specs.Run.{lengthB}
 use Rattle.blocks.specs.declared.Answer.{Answer}
-use Rattle.sheets.specs.Sheet.{planeB, translateDef}
+use Rattle.refusals.specs.Refusals.{planeB}
+use Rattle.sheets.specs.Sheet.{translateDef}
 use Rattle.sheets.proofs.SheetLaws.{translated-means}
 use Rattle.laws.proofs.BranchLaws.{cases}
 use Rattle.drawing.specs.Draw.{Outcome, outcome, refusal, drawnBy, largerB, sheetDrawn}

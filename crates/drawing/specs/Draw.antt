@@ -11,9 +11,11 @@ use Rattle.registers.specs.Sound.{soundB}
 use Rattle.registers.specs.State.{state}
 use Rattle.units.specs.Run.{lengthB}
 use Rattle.blocks.specs.declared.Answer.{Answer}
-use Rattle.sheets.specs.Sheet.{planeB, translateDef}
-use Rattle.sends.specs.Sends.{leftAt, finished, ListOutcome, listSent}
-use Rattle.sends.specs.Sends.{Outcome as Sending}
+use Rattle.refusals.specs.Refusals.{planeB}
+use Rattle.sheets.specs.Sheet.{translateDef}
+use Rattle.finishing.specs.Finish.{leftAt, finished}
+use Rattle.finishing.specs.Finish.{Outcome as Sending}
+use Rattle.sends.specs.Sends.{ListOutcome, listSent}
 use Rattle.drawing.specs.declared.Drawn.{Drawn}
 
 -- an answer, with what the lent entries and the lent memory then hold

@@ -19,7 +19,7 @@ use Rattle.geometry.specs.Plane.{InPlane}
 use Rattle.sending.specs.Send.{Ready, AllAccepted}
 use Rattle.demand.specs.Picture.{figuresMade, figuresDots}
 use Rattle.demand.specs.Shown.{Bytes}
-use Rattle.sends.specs.Sends.{finished}
+use Rattle.finishing.specs.Finish.{finished}
 use Rattle.drawing.specs.declared.Drawn.{Drawn}
 use Rattle.drawing.specs.Draw.{outcome, sheetDrawn}
 

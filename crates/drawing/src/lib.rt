@@ -32,7 +32,7 @@ fn refuse(number: u8, first: u32, second: u32, r: Registers) -> Drawn
 fn larger(p: u32, h: u32, words: usize) -> bool
     ensures { λ t. ⌜ t ≡ largerB p h words ⌝ }
 {
-    sheets::plane_fits(p, h) & ((words as u64) < p as u64 * h as u64)
+    refusals::plane_fits(p, h) & ((words as u64) < p as u64 * h as u64)
 }
 
 // Draws the sheet in a plane of P words by H lines at the memory's start, with the glyph table; entries is room for the translation.
@@ -62,7 +62,7 @@ pub fn draw_sheet(
     if a.number != 0 {
         return refuse(a.number, a.first, a.second, r);
     }
-    let w = sends::finish(r, mem);
+    let w = finishing::finish(r, mem);
     let n = a.first as usize;
     let q = sends::send_all(w.regs, &entries[..n], mem);
     let regs = q.regs;

@@ -14,8 +14,8 @@ use Rattle.console.specs.declared.desk.Desk.{Desk}
 use Rattle.console.specs.declared.desk.Done.{Done}
 use Rattle.sheets.specs.Sheet.{translateDef}
 use Rattle.sheets.specs.Sheet.{Outcome as Translated, outcome as translatedTo}
-use Rattle.sends.specs.declared.Sent.{Sent}
-use Rattle.sends.specs.Sends.{Outcome, outcome}
+use Rattle.finishing.specs.declared.Sent.{Sent}
+use Rattle.finishing.specs.Finish.{Outcome, outcome}
 use Rattle.easel.specs.Parts.{partOf, tableOf, sheetOf}
 use Rattle.easel.specs.Drawing.{translatedIn, played, playedWithin, drawingTold, drew, drawnBy, drawingDone}
 

@@ -13,8 +13,8 @@ use Rattle.units.specs.Run.{runDone}
 use Rattle.laws.proofs.BranchLaws.{either}
 use Rattle.laws.proofs.RunLaws.{run-within}
 use Rattle.sending.specs.Send.{written, fullBudget}
-use Rattle.sends.proofs.FinishLaws.{more-more}
-use Rattle.sends.specs.Sends.{Outcome, outcome, leftAt, more, runsDone, finished}
+use Rattle.finishing.proofs.FinishLaws.{more-more}
+use Rattle.finishing.specs.Finish.{Outcome, outcome, leftAt, more, runsDone, finished}
 use Rattle.easel.specs.Drawing.{entryPlayed, played}
 
 runs-few : (n : ℕ) (s : State) → runsDone n s .sent .units ≤ n * 4294967295

@@ -11,8 +11,8 @@ use Rattle.blocks.specs.declared.Answer.{Answer}
 use Rattle.sheets.specs.Sheet.{translateDef}
 use Rattle.sheets.specs.Sheet.{Outcome as Translated, outcome as translatedTo}
 use Rattle.sending.specs.Send.{written}
-use Rattle.sends.specs.declared.Sent.{Sent}
-use Rattle.sends.specs.Sends.{Outcome, outcome, leftAt, unmoved, more, finished}
+use Rattle.finishing.specs.declared.Sent.{Sent}
+use Rattle.finishing.specs.Finish.{Outcome, outcome, leftAt, unmoved, more, finished}
 use Rattle.buffers.specs.Used.{usedOf}
 use Rattle.console.specs.declared.desk.Desk.{Desk}
 use Rattle.console.specs.declared.desk.Done.{Done}

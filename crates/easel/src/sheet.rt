@@ -5,14 +5,14 @@ use console::desk::Desk;
 use console::desk::Done;
 use console::desk::Reply;
 use console::output;
+use finishing::Sent;
 use registers::Registers;
-use sends::Sent;
 ghost use mathlib.Core.Path.{_≡_};
 ghost use Prim.Native.Nat.{_≤_};
 ghost use lib.ListN.{length};
 ghost use Rattle.registers.specs.State.{state};
 ghost use Rattle.sheets.specs.Sheet.{outcome as translatedTo};
-ghost use Rattle.sends.specs.Sends.{outcome};
+ghost use Rattle.finishing.specs.Finish.{outcome};
 ghost use Rattle.easel.specs.Parts.{partOf};
 ghost use Rattle.easel.specs.Drawing.{translatedIn, played, playedWithin, drawingTold, drew, drawingDone};
 
@@ -59,7 +59,7 @@ fn send_all(r: Registers, entries: &[u16], mem: &mut [u16]) -> Sent
     let mut units: u64 = 0;
     let mut i: usize = 0;
     while i < entries.len() {
-        let s = sends::finish(sends::to_port(q, entries[i]), mem);
+        let s = finishing::finish(sends::to_port(q, entries[i]), mem);
         q = s.regs;
         units += s.units;
         i += 1;

@@ -113,7 +113,7 @@ pub extern "C" fn kranichseil_command(r: PlainRegisters, byte: u8) -> PlainAnswe
 pub extern "C" fn kranichseil_parameter(r: PlainRegisters, byte: u8) -> PlainAnswer
     ensures { λ q. ⌜ q ≡ asked r (parameterWritten (fromPlain r) byte) ⌝ }
 {
-    if !plain::form::formed(r) {
+    if !forms::formed(r) {
         return bus::refuse(r);
     }
     bus::answer_plain(ports::write_parameter(plain::convert::from_plain(r), byte))
@@ -124,7 +124,7 @@ pub extern "C" fn kranichseil_parameter(r: PlainRegisters, byte: u8) -> PlainAns
 pub extern "C" fn kranichseil_read(r: PlainRegisters) -> PlainAnswer
     ensures { λ q. ⌜ q ≡ asked r (byteRead (fromPlain r)) ⌝ }
 {
-    if !plain::form::formed(r) {
+    if !forms::formed(r) {
         return bus::refuse(r);
     }
     bus::answer_plain(ports::read_byte(plain::convert::from_plain(r)))
@@ -135,7 +135,7 @@ pub extern "C" fn kranichseil_read(r: PlainRegisters) -> PlainAnswer
 pub extern "C" fn kranichseil_status(r: PlainRegisters) -> PlainAnswer
     ensures { λ q. ⌜ q ≡ asked r (statusRead (fromPlain r)) ⌝ }
 {
-    if !plain::form::formed(r) {
+    if !forms::formed(r) {
         return bus::refuse(r);
     }
     bus::answer_plain(ports::read_status(plain::convert::from_plain(r)))
@@ -146,7 +146,7 @@ pub extern "C" fn kranichseil_status(r: PlainRegisters) -> PlainAnswer
 pub extern "C" fn kranichseil_pen(r: PlainRegisters, address: u32) -> PlainAnswer
     ensures { λ q. ⌜ q ≡ asked r (penPosted (fromPlain r) address) ⌝ }
 {
-    if !plain::form::formed(r) {
+    if !forms::formed(r) {
         return bus::refuse(r);
     }
     bus::answer_plain(ports::post_pen(plain::convert::from_plain(r), address))
@@ -194,7 +194,7 @@ pub extern "C" fn kranichseil_board_read(r: &mut PlainRegisters, port: u8) -> Pl
 pub extern "C" fn kranichseil_run(r: PlainRegisters, mem: &mut [u16], budget: u32) -> PlainRan
     ensures { λ q. ⌜ plained q (now (mem .exit)) ≡ ranOn r (now (mem .entry)) (runDone budget (state (fromPlain r) (now (mem .entry)))) ⌝ }
 {
-    if !plain::form::formed(r) {
+    if !forms::formed(r) {
         return PlainRan {
             number: 1,
             count: 0,
@@ -245,7 +245,7 @@ fn send_plain(p: PlainRegisters, entries: &[u16], mem: &mut [u16]) -> PlainSent
         ⌜ delivered q (now (mem .exit))
         ≡ sentOn p (now (mem .entry)) (listSent (state (fromPlain p) (now (mem .entry))) (now (entries .entry))) ⌝ }
 {
-    if !plain::form::formed(p) {
+    if !forms::formed(p) {
         return PlainSent {
             number: 1,
             taken: 0,

@@ -1,4 +1,3 @@
 pub mod NumberLaws
 pub mod PartLaws
 pub mod MirrorLaws
-pub mod FitLaws

@@ -2,4 +2,3 @@ pub mod Numbers
 pub mod Parts
 pub mod Mirror
 pub mod Form
-pub mod Fit

@@ -1,8 +1,6 @@
 // The register set in plain numbers, as C holds it, and back. A set that is none (a bit that is 2, an enum's number out of range, an
 // unused field that is not 0) has no form.
 pub mod convert;
-pub mod fit;
-pub mod form;
 pub mod numbers;
 pub mod parts;
 

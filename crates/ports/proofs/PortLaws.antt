@@ -1,8 +1,7 @@
--- The ports: an unsound set is refused first; one law for each way on. And the status is a byte: its bits have different weights.
+-- The ports: an unsound set is refused first; one law for each way on.
 use mathlib.Core.Path.{_≡_, sym, ap, _∙_}
 use mathlib.Core.Bool.{Bool, true, false, cond}
-use Prim.Native.Nat.{ℕ, _%_, _≤_}
-use native.Mathlib.Omega.{arith}
+use Prim.Native.Nat.{ℕ, _%_}
 use borrow.Author.Tests.{eq-eqb, ne-eqb}
 use Rattle.registers.specs.declared.Mode.{Mode}
 use Rattle.registers.specs.declared.Registers.{Registers}
@@ -11,7 +10,7 @@ use Rattle.registers.specs.Put.{putBuffer}
 use Rattle.registers.specs.Buffer.{oldest, popped}
 use Rattle.registers.specs.Sound.{soundB}
 use Rattle.ports.specs.declared.Answer.{Answer}
-use Rattle.ports.specs.Port.{granted, refused, byteIn, oneIf}
+use Rattle.ports.specs.Port.{granted, refused, byteIn}
 
 -- what every entry does with an unsound set, and that a sound one is let through; t is the test's result
 module _ (r : Registers) {t : Bool} {a : Answer} (b : Answer) (e : t ≡ soundB r) where
@@ -24,11 +23,6 @@ module _ (r : Registers) {t : Bool} {a : Answer} (b : Answer) (e : t ≡ soundB 
 -- a definition that goes by the mode, at the mode that the code met
 pub by-mode : (f : Mode → Answer) {m k : Mode} {a : Answer} → m ≡ k → a ≡ f k → a ≡ f m
 by-mode f e h = h ∙ ap f (sym e)
-
-pub one-le : (t : Bool) {n : ℕ} → n ≡ oneIf t → n ≤ 1
-unfolding oneIf
-one-le true e = omega (arith, e)
-one-le false e = omega (arith, e)
 
 -- a byte read in read mode: none is held, or one is
 module _ (r : Registers) where

@@ -15,6 +15,7 @@ use Rattle.registers.specs.Sound.{soundB}
 use Rattle.registers.specs.Buffer.{pushed, oldest, popped}
 use Rattle.registers.specs.Put.{putPen, putMode, putBuffer, putWork}
 use Rattle.processor.specs.Command.{resetDone}
+use Rattle.status.specs.Status.{statusOf}
 use Rattle.ports.specs.declared.Answer.{Answer}
 
 -- "Success is number 0"
@@ -62,27 +63,6 @@ byteIn Read r = cond (eqb (r .buffer .count) 0) (refused 5 r) (granted (oldest (
 
 unfoldable pub byteRead : Registers → Answer
 byteRead r = cond (soundB r) (byteIn (r .mode) r) (refused 1 r)
-
-unfoldable pub oneIf : Bool → ℕ
-oneIf true = 1
-oneIf false = 0
-
-abbrev pub figureInProgressB : Work → Bool
-figureInProgressB Idle = false
-figureInProgressB (Figure k d) = true
-figureInProgressB (Character row column start) = true
-figureInProgressB (Reading i t) = false
-
-abbrev pub readModeB : Mode → Bool
-readModeB Write = false
-readModeB Read = true
-
--- "Status: bit 7 light pen, 3 figure in progress, 2 buffer holds nothing, 1 holds 16, 0 read mode and a byte held"; "status bits 6, 5 and 4
--- read 0"
-unfoldable pub statusOf : Registers → ℕ
-statusOf r =
-    128 * oneIf (r .pen .set) + 8 * oneIf (figureInProgressB (r .work)) + 4 * oneIf (eqb (r .buffer .count) 0)
-    + 2 * oneIf (eqb (r .buffer .count) places) + oneIf (readModeB (r .mode) && ltb 0 (r .buffer .count))
 
 unfoldable pub statusRead : Registers → Answer
 statusRead r = cond (soundB r) (granted (statusOf r) r) (refused 1 r)

@@ -1,4 +1,4 @@
-// The two ports, the status and the light pen.
+// The two ports, the status read at one, and the light pen.
 use registers::Mode;
 use registers::Registers;
 use registers::Work;
@@ -21,10 +21,6 @@ ghost use Rattle.ports.specs.Port.{
   parameterWritten,
   byteIn,
   byteRead,
-  oneIf,
-  figureInProgressB,
-  readModeB,
-  statusOf,
   statusRead,
   penPut,
   penPosted,
@@ -174,70 +170,6 @@ pub fn read_byte(r: Registers) -> Answer
     byte_in(r)
 }
 
-// A figure is in progress.
-fn figure_in_progress(w: Work) -> bool
-    ensures { λ t. ⌜ t ≡ figureInProgressB w ⌝ }
-{
-    match w {
-        Work::Idle => false,
-        Work::Figure { dot: _, d: _ } => true,
-        Work::Character {
-            row: _,
-            column: _,
-            start: _,
-        } => true,
-        Work::Reading {
-            item: _,
-            transfer: _,
-        } => false,
-    }
-}
-
-fn one_if(t: bool) -> u8
-    ensures { λ n. ⌜ n ≡ oneIf t ⌝ }
-{
-    if t {
-        return 1;
-    }
-    0
-}
-
-fn is_read(m: Mode) -> bool
-    ensures { λ t. ⌜ t ≡ readModeB m ⌝ }
-{
-    match m {
-        Mode::Write => false,
-        Mode::Read => true,
-    }
-}
-
-// The status byte, of what it tells: the light pen, a figure, how many entries are held, read mode.
-pub fn status_by(pen: bool, drawing: bool, count: u8, reading: bool) -> u8
-    ensures { λ v.
-        ⌜ v
-        ≡ 128 * oneIf pen + 8 * oneIf drawing + 4 * oneIf (eqb count 0) + 2 * oneIf (eqb count places) + oneIf (reading && ltb 0 count) ⌝ }
-{
-    let pen = one_if(pen) as u16;
-    let drawing = one_if(drawing) as u16;
-    let empty = one_if(count == 0) as u16;
-    let full = one_if(count == registers::PLACES) as u16;
-    let ready = one_if(reading & (0 < count)) as u16;
-    (128 * pen + 8 * drawing + 4 * empty + 2 * full + ready) as u8
-}
-
-fn status_of(r: Registers) -> u8
-    ensures { λ v. ⌜ v ≡ statusOf r ⌝ }
-{
-    let work = r.work;
-    let mode = r.mode;
-    status_by(
-        r.pen.set,
-        figure_in_progress(work),
-        r.buffer.count,
-        is_read(mode),
-    )
-}
-
 // The status is read.
 pub fn read_status(r: Registers) -> Answer
     ensures { λ a. ⌜ a ≡ statusRead r ⌝ }
@@ -245,7 +177,7 @@ pub fn read_status(r: Registers) -> Answer
     if !registers::sound(r) {
         return refuse(1, r);
     }
-    grant(status_of(r), r)
+    grant(status::status_of(r), r)
 }
 
 // The light pen's address, as news.

@@ -6,6 +6,7 @@ ghost use lib.ListN.{take};
 ghost use Rattle.registers.specs.Fresh.{freshSet};
 ghost use Rattle.registers.specs.Buffer.{pushed, oldest, popped};
 ghost use Rattle.registers.specs.Size.{factorOf, dotsOf, rowsOf, columnsOf};
+ghost use Rattle.registers.specs.declared.Mode.the-variants.{Read};
 ghost use Rattle.registers.specs.Sound.{
   allBelow,
   cursorB,
@@ -259,10 +260,25 @@ fn entries_fit(entries: [u16; 16], below: u16, n: u16) -> bool
     let mut fit = true;
     let mut i: u16 = 0;
     while i < 16 {
-        fit = fit & ((n <= i) | (entries[i as usize] < below));
+        if (i < n) & (below <= entries[i as usize]) {
+            fit = false;
+        }
         i += 1;
     }
     fit
+}
+
+// In read mode all sixteen are asked for bytes first: those that are held are, if all are, and few sets have more behind them.
+fn bytes_fit(b: Buffer) -> bool
+    ensures { λ t. ⌜ t ≡ bufferB Read b ⌝ }
+{
+    let entries = b.entries;
+    if entries_fit(entries, COMMAND_MARK, PLACES as u16) {
+        return b.count <= PLACES;
+    }
+    (b.count <= PLACES)
+        & entries_fit(entries, ENTRY_END, PLACES as u16)
+        & entries_fit(entries, COMMAND_MARK, b.count as u16)
 }
 
 // In write mode a held entry has the bound of every other.
@@ -270,10 +286,9 @@ pub fn buffer_fits(m: Mode, b: Buffer) -> bool
     ensures { λ t. ⌜ t ≡ bufferB m b ⌝ }
 {
     let entries = b.entries;
-    let whole = (b.count <= PLACES) & entries_fit(entries, ENTRY_END, PLACES as u16);
     match m {
-        Mode::Write => whole,
-        Mode::Read => whole & entries_fit(entries, COMMAND_MARK, b.count as u16),
+        Mode::Write => (b.count <= PLACES) & entries_fit(entries, ENTRY_END, PLACES as u16),
+        Mode::Read => bytes_fit(b),
     }
 }
 
@@ -349,28 +364,15 @@ pub fn pop(b: Buffer) -> Buffer
             count: 0,
         };
     }
-    let e = b.entries;
-    Buffer {
-        entries: [
-            e[1],
-            e[2],
-            e[3],
-            e[4],
-            e[5],
-            e[6],
-            e[7],
-            e[8],
-            e[9],
-            e[10],
-            e[11],
-            e[12],
-            e[13],
-            e[14],
-            e[15],
-            0,
-        ],
-        count: b.count - 1,
+    let mut n = b;
+    let mut i: usize = 0;
+    while i < 15 {
+        n.entries[i] = b.entries[i + 1];
+        i += 1;
     }
+    n.entries[15] = 0;
+    n.count = b.count - 1;
+    n
 }
 
 // A sound register set.

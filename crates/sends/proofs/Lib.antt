@@ -1,4 +1,2 @@
 pub mod SendLaws
 pub mod QuickLaws
-pub mod EndLaws
-pub mod FinishLaws

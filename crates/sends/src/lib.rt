@@ -17,14 +17,8 @@ ghost use Rattle.registers.specs.State.{state};
 ghost use Rattle.settings.specs.Settings.{putSettings, settingsOf, settled};
 ghost use Rattle.units.specs.Run.{lengthB};
 ghost use Rattle.sending.specs.Send.{written};
-ghost use Rattle.sends.specs.Sends.{outcome, finished, listed, mostListed, listTaken, listSent};
+ghost use Rattle.sends.specs.Sends.{listed, mostListed, listTaken, listSent};
 ghost use Rattle.sends.specs.Quick.{idleB, atOnceB, begunBy, setAt, firstSent};
-
-// The registers after entries were sent, and the units that their runs reported.
-pub struct Sent {
-    pub regs: Registers,
-    pub units: u64,
-}
 
 // What a list of entries is answered with: the number of refusal, how many entries were taken, the units that their runs reported, and
 // the registers.
@@ -264,26 +258,4 @@ pub fn send_all(r: Registers, entries: &[u16], mem: &mut [u16]) -> Listed
     }
     let n = looked_at(entries.len());
     send_on(r, &entries[..n], mem)
-}
-
-// The controller is run until a run does not say that its budget is spent: what was waiting or in progress is finished.
-pub fn finish(r: Registers, mem: &mut [u16]) -> Sent
-    ensures { λ q. ⌜ outcome q (now (mem .exit)) ≡ finished (state r (now (mem .entry))) ⌝ }
-{
-    let mut s = r;
-    let mut units: u64 = 0;
-    let mut left: u32 = 272;
-    while 0 < left {
-        let q = units::run(s, mem, 4294967295);
-        units += q.count as u64;
-        s = q.regs;
-        left -= 1;
-        if q.why != 1 {
-            left = 0;
-        }
-    }
-    Sent {
-        regs: s,
-        units: units,
-    }
 }

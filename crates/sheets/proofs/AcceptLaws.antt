@@ -22,11 +22,13 @@ use Rattle.blocks.specs.declared.Answer.{Answer}
 use Rattle.blocks.specs.Answer.{answer, orElse, firstFrom}
 use Rattle.blocks.specs.Block.{countOf, checkB, headB, blockRefusal, blockAnswer, blocksChecked}
 use Rattle.blocks.proofs.AnswerLaws.{or-zero, first-none, first-all}
-use Rattle.sheets.specs.Slots.{usedB, slotDecoded, slotRefusal, slotAnswer, recordsChecked, translation}
-use Rattle.sheets.specs.Sheet.{planeB, tableB, sheetLengthB, frameRefusal, roomOf, figuresOf, sheetRefusal, ended, answerOf}
-use Rattle.sheets.specs.Sheet.{Outcome, outcome, translateDef}
+use Rattle.refusals.specs.Refusals.{planeB, tableB, sheetLengthB, frameRefusal, roomOf, sheetRefusal}
+use Rattle.refusals.specs.Refusals.{usedB, slotDecoded, slotRefusal, slotAnswer, recordsChecked}
+use Rattle.refusals.proofs.RefusalLaws.{three}
+use Rattle.sheets.specs.Slots.{translation}
+use Rattle.sheets.specs.Sheet.{figuresOf, ended, answerOf, Outcome, outcome, translateDef}
 use Rattle.sheets.specs.Lawful.{LawfulRecord, Lawful}
-use Rattle.sheets.proofs.SheetLaws.{three, translated-means}
+use Rattle.sheets.proofs.SheetLaws.{translated-means}
 use Rattle.sheets.proofs.LawfulLaws.{block-lawful, block-granted, record-lawful, record-granted}
 
 used-zero : (u : Bool) (x : ℕ) → (u ≡ true → x ≡ 0) → cond u x 0 ≡ 0

@@ -1,9 +1,9 @@
 -- One law for each way out of a slot, and for each turn of the passes that count and write the slots' entries: what is left to do, with
 -- what is done, is the whole. True because each definition takes one slot where a loop takes one turn.
-use mathlib.Core.Path.{_≡_, refl, ap}
+use mathlib.Core.Path.{_≡_, refl}
 use mathlib.Core.Bool.{Bool, true, false, cond}
 use mathlib.Core.List.{List, [], _∷_, _++_, append-assoc, append-nil}
-use Prim.Native.Nat.{ℕ, zero, suc, _+_, _-_, _*_, _/_, _%_, _<_, _≤_}
+use Prim.Native.Nat.{ℕ, zero, suc, _+_, _-_, _*_, _<_, _≤_}
 use native.Mathlib.Omega.{arith}
 use lib.ListN.{length, length-append}
 use Rattle.records.specs.declared.Record.{Record}
@@ -13,12 +13,10 @@ use Rattle.records.specs.declared.Figure.{Figure}
 use Rattle.records.specs.declared.Figure.the-variants.{Dot, Line, Rectangle, Glyph}
 use Rattle.records.specs.declared.Decoded.{Decoded}
 use Rattle.records.specs.declared.Decoded.the-variants.{Good, Refused}
-use Rattle.records.specs.Refused.{numberOf}
-use Rattle.blocks.specs.Answer.{answer, firstFrom}
-use Rattle.blocks.proofs.AnswerLaws.{first-stop}
 use Rattle.entries.specs.Entries.{placed, plain, figureSize, sizeOf, entriesOf}
 use Rattle.entries.proofs.PutLaws.{entries-size, placed-append}
-use Rattle.sheets.specs.Slots.{usedB, slotDecoded, slotRefusal, slotAnswer, figuresIn, slotFigures, figuresFrom, figures}
+use Rattle.refusals.specs.Refusals.{usedB, slotDecoded}
+use Rattle.sheets.specs.Slots.{figuresIn, slotFigures, figuresFrom, figures}
 use Rattle.sheets.specs.Slots.{translated, translation, sized}
 
 -- ---- one slot
@@ -34,19 +32,6 @@ module _ (s : List ℕ) (m : Room) (k : ℕ) where
   pub good : {d : Decoded} {r : Record} → usedB s k ≡ true → d ≡ slotDecoded s m k → d ≡ Good r → slotFigures s m k ≡ r ∷ []
   unfolding slotFigures
   good u e g = rw (u, ← e, g)
-
-  pub not-refused : usedB s k ≡ false → 0 ≡ slotRefusal s m k
-  unfolding slotRefusal
-  not-refused u = rw u
-
-  pub number-is : {d : Decoded} {x : ℕ} → usedB s k ≡ true → d ≡ slotDecoded s m k → x ≡ numberOf d → x ≡ slotRefusal s m k
-  unfolding slotRefusal
-  number-is u e q = rw (u, ← e, q)
-
--- the first slot that is refused
-pub records-stop : (s : List ℕ) (m : Room) (n k : ℕ) {x : ℕ} → k < 50 * n → x ≡ slotRefusal s m k → (x ≡ 0 → ⊥)
-    → answer x (k / 50) (k % 50) ≡ firstFrom (slotAnswer s m) (50 * n - k) k
-records-stop s m n k h p z = first-stop (slotAnswer s m) (50 * n) k h (ap (λ (y : ℕ). answer y (k / 50) (k % 50)) p) z
 
 -- a slot's size
 pub size-none : {f : List Record} → f ≡ [] → 0 ≡ sized f

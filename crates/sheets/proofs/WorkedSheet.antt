@@ -9,8 +9,9 @@ use Rattle.records.specs.Decode.{figureOf, decodedOf, decodedAt}
 use Rattle.blocks.specs.Answer.{answer, firstFrom}
 use Rattle.blocks.specs.Block.{sumWords, checkOf, zerosB, headB, blockRefusal, blocksChecked}
 use Rattle.entries.specs.Entries.{dirOf, slopeOf, dotEntries, lineEntries, rectangleEntries, glyphEntries, entriesOf}
-use Rattle.sheets.specs.Slots.{slotRefusal, recordsChecked, slotFigures, figuresFrom, figures, translated, translation}
-use Rattle.sheets.specs.Sheet.{frameRefusal, sheetRefusal, answerOf, Outcome, outcome, translateDef}
+use Rattle.refusals.specs.Refusals.{frameRefusal, slotRefusal, recordsChecked, sheetRefusal}
+use Rattle.sheets.specs.Slots.{slotFigures, figuresFrom, figures, translated, translation}
+use Rattle.sheets.specs.Sheet.{answerOf, Outcome, outcome, translateDef}
 
 -- "Block 0 holds 00 00 01 01, then 01 03 11 00 02 00 00 00 00 00, zeros, and 49 20 at its end"
 pub sheet : List ℕ

@@ -15,9 +15,10 @@ use Rattle.registers.specs.Put.{putCursor, putWork}
 use Rattle.registers.specs.State.{State, state}
 use Rattle.figures.specs.Figure.{directionAt, runningD, figureMoved, figureUnit}
 use Rattle.figures.specs.Character.{nextStart, characterMoved, characterUnit}
-use Rattle.bursts.specs.declared.Brush.{Brush}
+use Rattle.walks.specs.declared.Brush.{Brush}
+use Rattle.walks.specs.Walk.{dotted, rowsIn, columnsIn, lettered, nextRow}
 use Rattle.bursts.specs.declared.Burst.{Burst}
-use Rattle.bursts.specs.Burst.{Drawn, burst, later, dotted, figureBurst, rowsIn, columnsIn, lettered, nextRow, characterBurst, rowsAhead}
+use Rattle.bursts.specs.Burst.{Drawn, burst, later, figureBurst, characterBurst, rowsAhead}
 use Rattle.bursts.proofs.BurstLaws.{figure-goes, figure-last, character-goes, character-turns, character-last}
 use Rattle.bursts.proofs.CountLaws.{Counted, figure-counted, character-counted, ahead-counted}
 use Rattle.units.specs.Unit.{unitDone}

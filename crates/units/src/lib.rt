@@ -1,9 +1,9 @@
 // The run with a budget.
-use bursts::Brush;
 use registers::Buffer;
 use registers::Mode;
 use registers::Registers;
 use registers::Work;
+use walks::Brush;
 ghost use mathlib.Core.Path.{_≡_};
 ghost use Rattle.registers.specs.Put.{putBuffer};
 ghost use Rattle.registers.specs.State.{state};

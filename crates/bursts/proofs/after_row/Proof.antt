@@ -29,36 +29,33 @@ sub-whole-rows-2 c = search needs
 whole-rows-requires : tie.Need-whole-rows-requires
 whole-rows-requires c κs = search needs
 
-add-rows-dots : tie.Need-add-rows-dots
-add-rows-dots c = search needs
+add-first : tie.Need-add-first
+add-first c = search needs
+
+add-end : tie.Need-add-end
+add-end c = omega (arith, is-whole _ _ _ (c .whole-rows .ensures) .within)
 
 next-row-requires : tie.Need-next-row-requires
 next-row-requires c κs = search needs
 
 rows-dots-requires : tie.Need-rows-dots-requires
-rows-dots-requires c κs = omega (arith, is-whole _ _ _ (c .before .before .whole-rows .ensures) .within)
+rows-dots-requires c κs = search needs
 
-mul-t18 : tie.Need-mul-t18
-mul-t18 c =
+mul-t19 : tie.Need-mul-t19
+mul-t19 c =
     omega (
       arith,
       is-whole _ _ _ (c .before .before .before .before .before .whole-rows .ensures) .fits,
       c .before .before .before .before .before .before .before .before .before .before .pre,
     )
 
-add-t17 : tie.Need-add-t17
-add-t17 c =
+add-t20 : tie.Need-add-t20
+add-t20 c =
     omega (
       arith,
       is-whole _ _ _ (c .before .before .before .before .before .whole-rows .ensures) .fits,
       c .before .before .before .before .before .before .before .before .before .before .pre,
     )
-
-add-t22 : tie.Need-add-t22
-add-t22 c = search needs
-
-add-t23 : tie.Need-add-t23
-add-t23 c = omega (arith, is-whole _ _ _ (c .before .before .before .before .before .whole-rows .ensures) .within)
 
 same-length : tie.Need-same-length
 same-length c = search needs
@@ -83,12 +80,11 @@ after-row-spec =
     sub-whole-rows
     sub-whole-rows-2
     whole-rows-requires
-    add-rows-dots
+    add-first
+    add-end
     next-row-requires
     rows-dots-requires
-    mul-t18
-    add-t17
-    add-t22
-    add-t23
+    mul-t19
+    add-t20
     same-length
     returns-2)

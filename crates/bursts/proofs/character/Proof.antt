@@ -1,6 +1,7 @@
 -- `character` is the definition: dots of the row before its last, and that one with what comes after the row where there may be more.
 use native.Mathlib.Omega.{arith}
-use Rattle.bursts.proofs.BurstLaws.{is-least, character-stopped, character-went}
+use Rattle.walks.proofs.LeastLaws.{is-least}
+use Rattle.bursts.proofs.BurstLaws.{character-stopped, character-went}
 use borrow.Author.Needs.{needs}
 use Rattle.bursts.proofs.character.Statement.{statement}
 use Rattle.bursts.proofs.character.Tie as tie
@@ -14,23 +15,11 @@ before-last-requires c κs = search needs
 least-of-requires : tie.Need-least-of-requires
 least-of-requires c κs = search needs
 
-row-dots-requires : tie.Need-row-dots-requires
-row-dots-requires c κs =
-    let n = c .before in
-    omega (
-      arith,
-      is-least (n .before .before .before .before .args .most) (n .before .before-last .result) (n .least-of .ensures) .right,
-      n .before .before-last .ensures,
-    )
+add-end : tie.Need-add-end
+add-end c = omega (arith, is-least _ (c .before .before-last .result) (c .least-of .ensures) .right, c .before .before-last .ensures)
 
-add-t15 : tie.Need-add-t15
-add-t15 c =
-    let n = c .before .before .before .before .before in
-    omega (
-      arith,
-      is-least (n .before .before .before .before .args .most) (n .before .before-last .result) (n .least-of .ensures) .right,
-      n .before .before-last .ensures,
-    )
+row-dots-requires : tie.Need-row-dots-requires
+row-dots-requires c κs = search needs
 
 same-length : tie.Need-same-length
 same-length c = search needs
@@ -41,15 +30,6 @@ returns c =
     character-stopped _ _ _ _ _ _ _ (rw (← n .before .before .columns-of .ensures, ← n .before .before-last .ensures)
     (n .least-of .ensures))
     (c .before .before .before .row-dots .ensures) (c .if1 .taken)
-
-add-letter : tie.Need-add-letter
-add-letter c =
-    let n = c .before .before .before .before .before .before in
-    omega (
-      arith,
-      is-least (n .before .before .before .before .args .most) (n .before .before-last .result) (n .least-of .ensures) .right,
-      n .before .before-last .ensures,
-    )
 
 letter-requires : tie.Need-letter-requires
 letter-requires c κs = search needs
@@ -88,11 +68,10 @@ character-spec =
     columns-of-requires
     before-last-requires
     least-of-requires
+    add-end
     row-dots-requires
-    add-t15
     same-length
     returns
-    add-letter
     letter-requires
     add-after-row
     sub-after-row

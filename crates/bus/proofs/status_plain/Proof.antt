@@ -1,6 +1,6 @@
 -- `status_plain` is the status of the set that the numbers give.
 use Rattle.bus.proofs.BytesLaws.{read-mode, figure-there}
-use Rattle.ports.specs.Port.{statusOf}
+use Rattle.status.specs.Status.{statusOf}
 use Rattle.plain.specs.Mirror.{fromPlain}
 use borrow.Author.Needs.{needs}
 use Rattle.bus.proofs.status_plain.Statement.{statement}

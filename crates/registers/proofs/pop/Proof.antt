@@ -1,88 +1,82 @@
--- `pop` is the definition: the last entry leaves an empty buffer, another moves the rest one place on.
-use Rattle.registers.proofs.BufferLaws.{popped-more}
+-- `pop` is the definition: the last entry leaves an empty buffer, another moves the rest one place on, one entry a turn.
+use Rattle.registers.proofs.BufferLaws.{moved, moved-starts, moved-on, popped-more}
 use Rattle.registers.specs.Buffer.{popped}
-use borrow.Author.Tests.{le-leb}
+use Prim.Native.Nat.{_≤_, _-_}
 use lib.ListN.{length}
-use mathlib.Core.Path.{_≡_}
+use borrow.Author.Tests.{le-leb}
 use borrow.Author.Needs.{needs}
+use mathlib.Core.Path.{_≡_}
 use Rattle.registers.proofs.pop.Statement.{statement}
 use Rattle.registers.proofs.pop.Tie as tie
 
-returns : tie.Need-returns
+abbrev Inv-loop : tie.InvT-loop
+Inv-loop b n₀ i₀ n i = (i ≤ 15) × (n .entries ≡ moved i (b .entries))
+
+abbrev μ-loop : tie.MeasureT-loop
+μ-loop b n₀ i₀ n i = 15 - i
+
+returns : tie.Need-returns Inv-loop μ-loop
 unfolding popped
-returns c = rw (le-leb (c .before .before .args .b .count) 1 (c .if1 .taken))
+returns c = rw (le-leb (c .before .args .t1 .count) 1 (c .if1 .taken))
 
-array-read-t7 : tie.Need-array-read-t7
-array-read-t7 c = search needs
+loop-holds : tie.Need-loop-holds Inv-loop μ-loop
+loop-holds c = (search needs, moved-starts _)
 
-array-read-t10 : tie.Need-array-read-t10
-array-read-t10 c = search needs
+add-n : tie.Need-add-n Inv-loop μ-loop
+add-n c = search needs
 
-array-read-t13 : tie.Need-array-read-t13
-array-read-t13 c = search needs
+mul-n : tie.Need-mul-n Inv-loop μ-loop
+mul-n c = search needs
 
-array-read-t16 : tie.Need-array-read-t16
-array-read-t16 c = search needs
+element-copy-out-n : tie.Need-element-copy-out-n Inv-loop μ-loop
+element-copy-out-n c = search needs
 
-array-read-t19 : tie.Need-array-read-t19
-array-read-t19 c = search needs
+mul-n-2 : tie.Need-mul-n-2 Inv-loop μ-loop
+mul-n-2 c = search needs
 
-array-read-t22 : tie.Need-array-read-t22
-array-read-t22 c = search needs
+element-write-n : tie.Need-element-write-n Inv-loop μ-loop
+element-write-n c = search needs
 
-array-read-t25 : tie.Need-array-read-t25
-array-read-t25 c = search needs
+add-i : tie.Need-add-i Inv-loop μ-loop
+add-i c = search needs
 
-array-read-t28 : tie.Need-array-read-t28
-array-read-t28 c = search needs
+loop-less : tie.Need-loop-less Inv-loop μ-loop
+loop-less c = search needs
 
-array-read-t31 : tie.Need-array-read-t31
-array-read-t31 c = search needs
+loop-again : tie.Need-loop-again Inv-loop μ-loop
+loop-again c =
+    let e = c .before .before .before .before .args .t1 .entries in
+    let n : length e ≡ 16 = search needs in
+    (search needs, (rw (c .before .before .loop .inv .1) (moved-on e (c .before .before .loop .i) (search needs))))
 
-array-read-t34 : tie.Need-array-read-t34
-array-read-t34 c = search needs
+element-write-n-2 : tie.Need-element-write-n-2 Inv-loop μ-loop
+element-write-n-2 c = search needs
 
-array-read-t37 : tie.Need-array-read-t37
-array-read-t37 c = search needs
+sub-n : tie.Need-sub-n Inv-loop μ-loop
+sub-n c = search needs
 
-array-read-t40 : tie.Need-array-read-t40
-array-read-t40 c = search needs
-
-array-read-t43 : tie.Need-array-read-t43
-array-read-t43 c = search needs
-
-array-read-t46 : tie.Need-array-read-t46
-array-read-t46 c = search needs
-
-array-read-t49 : tie.Need-array-read-t49
-array-read-t49 c = search needs
-
-sub-t51 : tie.Need-sub-t51
-sub-t51 c = search needs
-
-returns-2 : tie.Need-returns-2
-returns-2 c = let n : length (c .before .before .before .before .args .b .entries) ≡ 16 = search needs in
-    popped-more (c .before .before .before .before .args .b) (c .before .before .if1 .left) n
+returns-2 : tie.Need-returns-2 Inv-loop μ-loop
+returns-2 c =
+    let n : length (c .before .before .before .args .t1 .entries) ≡ 16 = search needs in
+    let e : c .before .loop .i ≡ 15 = search needs in
+    rw (c .before .loop .inv .1, e) (popped-more (c .before .before .before .args .t1) (c .before .before .if1 .left) n)
 
 pub pop-spec : {M : Type 1} → statement M
 pop-spec =
     tie.close
     (tie.spec
+    Inv-loop
+    μ-loop
     returns
-    array-read-t7
-    array-read-t10
-    array-read-t13
-    array-read-t16
-    array-read-t19
-    array-read-t22
-    array-read-t25
-    array-read-t28
-    array-read-t31
-    array-read-t34
-    array-read-t37
-    array-read-t40
-    array-read-t43
-    array-read-t46
-    array-read-t49
-    sub-t51
+    loop-holds
+    add-n
+    mul-n
+    element-copy-out-n
+    mul-n-2
+    element-write-n
+    add-i
+    loop-less
+    loop-again
+    element-write-n-2
+    sub-n
     returns-2)

@@ -1,6 +1,7 @@
 -- `translate` gives `translateDef`: one law of SheetLaws for each way out.
 use native.Mathlib.Omega.{arith}
-use Rattle.sheets.proofs.SheetLaws.{sheet-framed, way-refused, way-short, way-done}
+use Rattle.refusals.proofs.RefusalLaws.{sheet-framed}
+use Rattle.sheets.proofs.SheetLaws.{way-refused, way-short, way-done}
 use borrow.Author.Needs.{needs}
 use Rattle.sheets.proofs.translate.Statement.{statement}
 use Rattle.sheets.proofs.translate.Tie as tie
@@ -11,12 +12,20 @@ sheet-refusal-requires c κs = search needs
 returns : tie.Need-returns
 returns c = way-refused _ _ _ _ _ (c .before .before .sheet-refusal .ensures) (c .if1 .taken)
 
+cast-words : tie.Need-cast-words
+cast-words c = omega (arith, sheet-framed _ _ _ _ (c .before .before .sheet-refusal .ensures) (c .if1 .left))
+
 cast-n : tie.Need-cast-n
 cast-n c = omega (arith, sheet-framed _ _ _ _ (c .before .before .sheet-refusal .ensures) (c .if1 .left))
 
+cast-room-of : tie.Need-cast-room-of
+cast-room-of c = omega (arith, sheet-framed _ _ _ _ (c .before .before .sheet-refusal .ensures) (c .if1 .left))
+
+cast-room-of-2 : tie.Need-cast-room-of-2
+cast-room-of-2 c = omega (arith, sheet-framed _ _ _ _ (c .before .before .sheet-refusal .ensures) (c .if1 .left))
+
 room-of-requires : tie.Need-room-of-requires
-room-of-requires c κs =
-    let f = sheet-framed _ _ _ _ (c .before .before .sheet-refusal .ensures) (c .if1 .left) in (f .wide, f .tall, f .table)
+room-of-requires c κs = search needs
 
 entries-needed-requires : tie.Need-entries-needed-requires
 entries-needed-requires c κs = search needs
@@ -28,14 +37,6 @@ returns-2 : tie.Need-returns-2
 returns-2 c =
     way-short _ _ _ _ _ (c .before .before .before .before .before .sheet-refusal .ensures) (c .before .before .before .if1 .left)
     (rw (c .before .before .room-of .ensures) at (c .before .entries-needed .ensures)) (c .if2 .taken)
-
-cast-write-out : tie.Need-cast-write-out
-cast-write-out c =
-    omega (
-      arith,
-      sheet-framed _ _ _ _ (c .before .before .before .before .before .before .sheet-refusal .ensures)
-          (c .before .before .before .before .if1 .left),
-    )
 
 write-out-requires : tie.Need-write-out-requires
 write-out-requires c κs = search needs
@@ -57,12 +58,14 @@ translate-spec =
     (tie.spec
     sheet-refusal-requires
     returns
+    cast-words
     cast-n
+    cast-room-of
+    cast-room-of-2
     room-of-requires
     entries-needed-requires
     cast-if2
     returns-2
-    cast-write-out
     write-out-requires
     same-length
     returns-3)

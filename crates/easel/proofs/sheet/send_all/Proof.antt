@@ -7,8 +7,8 @@ use lib.ListN.{length, drop}
 use borrow.Author.Needs.{needs}
 use Rattle.registers.specs.declared.Registers.{Registers}
 use Rattle.registers.specs.State.{state}
-use Rattle.sends.specs.Sends.{more}
-use Rattle.sends.proofs.FinishLaws.{none-more}
+use Rattle.finishing.specs.Finish.{more}
+use Rattle.finishing.proofs.FinishLaws.{none-more}
 use Rattle.easel.specs.Drawing.{played}
 use Rattle.easel.proofs.PlayLaws.{finished-few, plays-on, plays-out}
 use Rattle.easel.proofs.sheet.send_all.Statement.{statement}

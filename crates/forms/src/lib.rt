@@ -1,0 +1,110 @@
+// Which plain numbers are those of a register set, and of a sound one: every entry from C asks it first.
+use plain::PlainRegisters;
+use plain::PlainWork;
+use plain::numbers;
+use plain::parts;
+use registers::Drawing;
+use registers::Mode;
+ghost use mathlib.Core.Path.{_≡_};
+ghost use mathlib.Core.Bool.{_&&_};
+ghost use Rattle.registers.specs.Sound.{placeB, workB, soundB};
+ghost use Rattle.plain.specs.Form.{commandFormB, noFigureB, noCharacterB, noReadingB, workFormB, bitsB, plainFormB};
+ghost use Rattle.plain.specs.Parts.{workOf};
+ghost use Rattle.plain.specs.Mirror.{fromPlain};
+ghost use Rattle.forms.specs.Fit.{numbersB};
+
+fn command_formed(n: u8, transfer: u8) -> bool
+    ensures { λ t. ⌜ t ≡ commandFormB n transfer ⌝ }
+{
+    if transfer == 0 {
+        return n < numbers::COMMANDS;
+    }
+    ((n == numbers::WDAT) | (n == numbers::RDAT)) & (transfer < numbers::TRANSFERS)
+}
+
+// The fields of a figure, of a character and of a read are 0.
+fn no_figure(w: PlainWork) -> bool
+    ensures { λ t. ⌜ t ≡ noFigureB w ⌝ }
+{
+    (w.dot | w.d as u32) == 0
+}
+
+fn no_character(w: PlainWork) -> bool
+    ensures { λ t. ⌜ t ≡ noCharacterB w ⌝ }
+{
+    (w.row | w.column | w.start.ead | w.start.mask as u32) == 0
+}
+
+fn no_reading(w: PlainWork) -> bool
+    ensures { λ t. ⌜ t ≡ noReadingB w ⌝ }
+{
+    (w.item as u32 | w.transfer as u32) == 0
+}
+
+fn work_formed(w: PlainWork) -> bool
+    ensures { λ t. ⌜ t ≡ workFormB w ⌝ }
+{
+    let kind = w.kind;
+    match kind {
+        0 => no_figure(w) & no_character(w) & no_reading(w),
+        1 => no_character(w) & no_reading(w),
+        2 => no_figure(w) & no_reading(w),
+        3 => no_figure(w) & no_character(w) & (w.transfer < numbers::TRANSFERS),
+        _ => false,
+    }
+}
+
+// Each bit is 0 or 1.
+fn bits_formed(p: PlainRegisters) -> bool
+    ensures { λ t. ⌜ t ≡ bitsB p ⌝ }
+{
+    (p.drawing.gd < 2) & (p.video.display < 2) & (p.video.vsync < 2) & (p.pen.set < 2)
+}
+
+pub fn formed(p: PlainRegisters) -> bool
+    ensures { λ t. ⌜ t ≡ plainFormB p ⌝ }
+{
+    let bits = bits_formed(p);
+    let command = command_formed(p.progress.command, p.progress.transfer);
+    let work = work_formed(p.work);
+    bits & (p.op < numbers::OPERATIONS) & (p.mode < numbers::MODES) & command & work
+}
+
+// What is in progress is formed, inside its figure or read, and of its mode.
+fn work_fits(w: PlainWork, f: Drawing, zoom: u8, m: Mode) -> bool
+    ensures { λ t. ⌜ t ≡ (workFormB w && placeB f zoom (workOf w) && workB m (workOf w)) ⌝ }
+{
+    let work = parts::work_of(w);
+    work_formed(w) & registers::place_fits(f, zoom, work) & registers::work_fits(m, work)
+}
+
+// Each number that stands for itself is within its width.
+fn numbers_fit(p: PlainRegisters) -> bool
+    ensures { λ t. ⌜ t ≡ numbersB p ⌝ }
+{
+    let formed = bits_formed(p) & (p.op < numbers::OPERATIONS) & (p.mode < numbers::MODES);
+    let cursor = registers::cursor_fits(parts::cursor_of(p.cursor));
+    let drawing = registers::drawing_fits(parts::drawing_of(p.drawing));
+    let sound = cursor
+        & drawing
+        & (p.pen.address < dots::ADDRESSES)
+        & (p.progress.next <= registers::PARAMETERS);
+    formed & sound
+}
+
+pub fn fits(p: PlainRegisters) -> bool
+    ensures { λ t. ⌜ t ≡ (plainFormB p && soundB (fromPlain p)) ⌝ }
+{
+    let mode = numbers::mode_of(p.mode);
+    let f = parts::drawing_of(p.drawing);
+    if !work_fits(p.work, f, p.video.zoom, mode) {
+        return false;
+    }
+    if !numbers_fit(p) {
+        return false;
+    }
+    if !command_formed(p.progress.command, p.progress.transfer) {
+        return false;
+    }
+    registers::buffer_fits(mode, parts::buffer_of(p.buffer))
+}

@@ -1,0 +1,19 @@
+-- `hot_mask` is a power of two: sixteen cases, computed.
+use Rattle.dots.proofs.Below.{below}
+use Prim.Native.Nat.{_*_, _%_, _^_}
+use lib.Dec.{eqb, eqb→eq}
+use borrow.Author.Needs.{needs}
+use Rattle.walks.proofs.bits.hot_mask.Statement.{statement}
+use Rattle.walks.proofs.bits.hot_mask.Tie as tie
+
+cast-result : tie.Need-cast-result
+cast-result c = search needs
+
+shl-result : tie.Need-shl-result
+shl-result c = search needs
+
+returns : tie.Need-returns
+returns c = eqb→eq _ _ (below (λ k. eqb (1 * 2 ^ k % 65536) (2 ^ k)) 16 tt (c .args .n) (search needs))
+
+pub hot-mask-spec : {M : Type 1} → statement M
+hot-mask-spec = tie.close (tie.spec cast-result shl-result returns)

@@ -1,0 +1,78 @@
+-- `line_loop`: what is left to do from here is what was to do from the start (`line-on`).
+use mathlib.Core.Path.{_≡_, refl, sym, _∙_}
+use mathlib.Core.List.{List}
+use Prim.Native.Nat.{ℕ, _-_, _<_}
+use native.Mathlib.Omega.{arith}
+use lib.ListN.{length}
+use Rattle.dots.specs.Operation.{operationOf}
+use Rattle.walks.specs.Address.{lineWalk}
+use Rattle.walks.proofs.LoopLaws.{stepped-lt, line-on, line-end}
+use borrow.Author.Needs.{needs}
+use Rattle.walks.proofs.line.line_loop.Statement.{statement}
+use Rattle.walks.proofs.line.line_loop.Tie as tie
+
+record Going (mem₀ : List ℕ) (kind low high axis diagonal k end s₀ : ℕ) (mem : List ℕ) (s i : ℕ) : Type 0 where
+  small : s < 281474976710656
+  long : length mem ≡ length mem₀
+  same : lineWalk (operationOf kind) low high axis diagonal (end - k) k s₀ mem₀
+      ≡ lineWalk (operationOf kind) low high axis diagonal (end - i) i s mem
+
+abbrev Inv-loop : tie.InvT-loop
+Inv-loop mem₀ kind low high axis diagonal k from end s₀ i₀ mem s i = Going mem₀ kind low high axis diagonal k end s₀ mem s i
+
+abbrev μ-loop : tie.MeasureT-loop
+μ-loop mem₀ kind low high axis diagonal k from end s₀ i₀ mem s i = end - i
+
+loop-holds : tie.Need-loop-holds Inv-loop μ-loop
+loop-holds c = record { small = search needs; long = refl; same = refl }
+
+cast-touch : tie.Need-cast-touch Inv-loop μ-loop
+cast-touch c = search needs
+
+pattern-of-requires : tie.Need-pattern-of-requires Inv-loop μ-loop
+pattern-of-requires c κs = search needs
+
+touch-requires : tie.Need-touch-requires Inv-loop μ-loop
+touch-requires c κs = search needs
+
+line-step-requires : tie.Need-line-step-requires Inv-loop μ-loop
+line-step-requires c κs = search needs
+
+add-i : tie.Need-add-i Inv-loop μ-loop
+add-i c = search needs
+
+loop-less : tie.Need-loop-less Inv-loop μ-loop
+loop-less c = omega arith
+
+loop-again : tie.Need-loop-again Inv-loop μ-loop
+loop-again c = let l = c .before .before .before .before .before .before .before .loop in
+    record {
+      small = rw (c .line-step .ensures) (stepped-lt _ _ _);
+      long = c .before .before .before .touch .kept .0 ∙ l .inv .long;
+      same = l .inv .same ∙ line-on _ _ _ _ _ _ _ _ _ (c .before .before .before .before .before .before .loop-test .taken)
+          (c .before .before .before .before .pattern-of .ensures) (c .before .before .before .touch .ensures)
+          (c .line-step .ensures);
+    }
+
+same-length : tie.Need-same-length Inv-loop μ-loop
+same-length c = c .before .loop .inv .long
+
+returns : tie.Need-returns Inv-loop μ-loop
+returns c = line-end _ _ _ _ _ _ _ _ _ (c .loop-test .left) ∙ sym (c .before .loop .inv .same)
+
+pub line-loop-spec : {M : Type 1} → statement M
+line-loop-spec =
+    tie.close
+    (tie.spec
+    Inv-loop
+    μ-loop
+    loop-holds
+    cast-touch
+    pattern-of-requires
+    touch-requires
+    line-step-requires
+    add-i
+    loop-less
+    loop-again
+    same-length
+    returns)
