@@ -73,7 +73,7 @@ pub fn board_send(r: &mut Registers, entries: &[u16], mem: &mut [u16]) -> Tally
         ⌜ tallied q (now (r .exit)) (now (mem .exit))
         ≡ listSent (state (now (r .entry)) (now (mem .entry))) (now (entries .entry)) ⌝ }
 {
-    let done = sends::send_all(*r, entries, mem);
+    let done = lists::send_all(*r, entries, mem);
     *r = regs_of_sent(done);
     tally_of(done)
 }

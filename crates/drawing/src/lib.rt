@@ -64,7 +64,7 @@ pub fn draw_sheet(
     }
     let w = finishing::finish(r, mem);
     let n = a.first as usize;
-    let q = sends::send_all(w.regs, &entries[..n], mem);
+    let q = lists::send_all(w.regs, &entries[..n], mem);
     let regs = q.regs;
     Drawn {
         number: 0,

@@ -253,7 +253,7 @@ fn send_plain(p: PlainRegisters, entries: &[u16], mem: &mut [u16]) -> PlainSent
             regs: p,
         };
     }
-    sent_plain(sends::send_all(plain::convert::from_plain(p), entries, mem))
+    sent_plain(lists::send_all(plain::convert::from_plain(p), entries, mem))
 }
 
 // The registers of a list's answer.

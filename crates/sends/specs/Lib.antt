@@ -1,2 +1,2 @@
 pub mod Sends
-pub mod Quick
+pub mod Once

@@ -36,9 +36,10 @@ use Rattle.sending.specs.Send.{written, fullBudget, Reply, sent, left}
 use Rattle.sending.proofs.KeptLaws.{sent-kept}
 use Rattle.sending.proofs.WaitLaws.{Waiting, drained, takenBy}
 use Rattle.sending.proofs.SendLaws.{taken-at-once}
+use Rattle.sends.specs.Once.{idleB, atOnceB}
 use Rattle.sends.specs.Sends.{ListOutcome, listTaken, mostListed}
-use Rattle.sends.specs.Quick.{idleB, atOnceB, withOne, begunBy, setBy, setAt, firstSent}
+use Rattle.lists.specs.Quick.{withOne, begunBy, setBy, setAt, firstSent}
 use Rattle.sends.proofs.SendLaws.{wentOn, ended, one-taken, alone-number, alone-taken, goes-no-further, next-entry}
 
 -- the first entries of a list, all taken: what is left to send then is what was to send before
 pub record Part (n : ℕ) (s : State) (l : List ℕ) (o : ListOutcome) : Type 0 where

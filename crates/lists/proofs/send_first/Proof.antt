@@ -1,9 +1,9 @@
 -- `send_first` is `firstSent`: the same test, and then the entry at once or its port.
 use mathlib.Core.List.{[]}
-use Rattle.sends.proofs.QuickLaws.{begins-at-once, goes-by-port}
+use Rattle.lists.proofs.QuickLaws.{begins-at-once, goes-by-port}
 use borrow.Author.Needs.{needs}
-use Rattle.sends.proofs.send_first.Statement.{statement}
-use Rattle.sends.proofs.send_first.Tie as tie
+use Rattle.lists.proofs.send_first.Statement.{statement}
+use Rattle.lists.proofs.send_first.Tie as tie
 
 at-once-requires : tie.Need-at-once-requires
 at-once-requires c κs = search needs

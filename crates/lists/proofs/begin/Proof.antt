@@ -1,8 +1,8 @@
 -- `begin` is `begunBy`: the entry is taken with an empty buffer, and the run goes on from there.
-use Rattle.sends.proofs.QuickLaws.{begins}
+use Rattle.lists.proofs.QuickLaws.{begins}
 use borrow.Author.Needs.{needs}
-use Rattle.sends.proofs.begin.Statement.{statement}
-use Rattle.sends.proofs.begin.Tie as tie
+use Rattle.lists.proofs.begin.Statement.{statement}
+use Rattle.lists.proofs.begin.Tie as tie
 
 no-entries-requires : tie.Need-no-entries-requires
 no-entries-requires c κs = search needs

@@ -1,7 +1,7 @@
 -- `with_settings` puts the settings into the set, with the empty buffer.
 use borrow.Author.Needs.{needs}
-use Rattle.sends.proofs.with_settings.Statement.{statement}
-use Rattle.sends.proofs.with_settings.Tie as tie
+use Rattle.lists.proofs.with_settings.Statement.{statement}
+use Rattle.lists.proofs.with_settings.Tie as tie
 
 no-entries-requires : tie.Need-no-entries-requires
 no-entries-requires c κs = search needs

@@ -1,32 +1,17 @@
--- 01, Ports and Units, of a controller that waits: in write mode, with its buffer empty and nothing in progress. A port puts an entry of
--- nine bits that is no RESET into the buffer, and the run's first unit takes it from there: so it may be taken at once, and that is a unit.
+-- What the list call does where the controller waits: an entry is taken at once, without its way through the buffer; entries that only set
+-- registers, all that stand together.
 use Prim.Native.Nat.{ℕ, _+_}
-use mathlib.Core.Bool.{Bool, true, false, cond, not, _&&_}
+use mathlib.Core.Bool.{cond}
 use mathlib.Core.List.{List, [], _∷_}
-use lib.Dec.{eqb, ltb}
-use Rattle.registers.specs.declared.Mode.{Mode}
-use Rattle.registers.specs.declared.Work.{Work}
-use Rattle.registers.specs.declared.Work.the-variants.{Idle, Figure, Character, Reading}
 use Rattle.registers.specs.declared.Registers.{Registers}
-use Rattle.registers.specs.Width.{commandMark, entryEnd}
 use Rattle.registers.specs.Fresh.{emptyBuffer}
-use Rattle.registers.specs.Sound.{writeB}
 use Rattle.registers.specs.Put.{putBuffer}
 use Rattle.registers.specs.State.{State, state}
 use Rattle.processor.specs.Entry.{entryTaken}
 use Rattle.settings.specs.Settings.{Settlement, putSettings, settingsOf, settleAll}
 use Rattle.units.specs.Run.{Outcome, runFrom}
 use Rattle.sends.specs.Sends.{ListOutcome, listed, listTaken}
-
-abbrev pub idleB : Work → Bool
-idleB Idle = true
-idleB (Figure k d) = false
-idleB (Character row column start) = false
-idleB (Reading item t) = false
-
--- the controller waits, so many entries being held, and the entry is one that it takes at once
-abbrev pub atOnceB : Mode → Work → ℕ → ℕ → Bool
-atOnceB m w held e = writeB m && idleB w && eqb held 0 && not (eqb e commandMark) && ltb e entryEnd
+use Rattle.sends.specs.Once.{atOnceB}
 
 -- a run's answer, as that of one entry; the unit that took it is one more
 abbrev pub withOne : Outcome → ListOutcome

@@ -1,8 +1,8 @@
 -- `set_at` is `setAt`: the same test, and then `settle`.
-use Rattle.sends.proofs.QuickLaws.{sets-at-once, sets-nothing}
+use Rattle.lists.proofs.QuickLaws.{sets-at-once, sets-nothing}
 use borrow.Author.Needs.{needs}
-use Rattle.sends.proofs.set_at.Statement.{statement}
-use Rattle.sends.proofs.set_at.Tie as tie
+use Rattle.lists.proofs.set_at.Statement.{statement}
+use Rattle.lists.proofs.set_at.Tie as tie
 
 settings-of-requires : tie.Need-settings-of-requires
 settings-of-requires c κs = search needs

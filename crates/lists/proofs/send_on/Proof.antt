@@ -8,10 +8,10 @@ use borrow.Author.Needs.{needs}
 use Rattle.registers.specs.State.{state}
 use Rattle.laws.proofs.KeptLaws.{lawful}
 use Rattle.laws.proofs.TypedLaws.{held-typed, held-words}
 use Rattle.sends.proofs.SendLaws.{starts, all-taken}
-use Rattle.sends.proofs.QuickLaws.{Going, units-fit, sets-on, sends-some, sends-on, sends-no-more}
-use Rattle.sends.proofs.send_on.Statement.{statement}
-use Rattle.sends.proofs.send_on.Tie as tie
+use Rattle.lists.proofs.QuickLaws.{Going, units-fit, sets-on, sends-some, sends-on, sends-no-more}
+use Rattle.lists.proofs.send_on.Statement.{statement}
+use Rattle.lists.proofs.send_on.Tie as tie
 
 abbrev Inv-loop : tie.InvT-loop
 Inv-loop entries mem₀ s₀ units₀ k₀ mem s units k = Going (length mem₀) entries (state s₀ mem₀) (state s mem) units k

@@ -2,9 +2,9 @@
 use mathlib.Core.Path.{sym, _∙_}
 use borrow.Author.Tests.{not-true, not-false}
 use borrow.Author.Needs.{needs}
 use Rattle.sends.proofs.SendLaws.{way-unsound, way-mislong, way-sent, looked-long, looked-few}
-use Rattle.sends.proofs.send_all.Statement.{statement}
-use Rattle.sends.proofs.send_all.Tie as tie
+use Rattle.lists.proofs.send_all.Statement.{statement}
+use Rattle.lists.proofs.send_all.Tie as tie
 
 sound-requires : tie.Need-sound-requires
 sound-requires c κs = search needs
