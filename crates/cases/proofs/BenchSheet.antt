@@ -9,8 +9,8 @@ use Rattle.registers.specs.Sound.{allBelow, soundB}
 use Rattle.registers.specs.Buffer.{pushed, oldest, popped}
 use Rattle.commands.specs.Decode.{familyOf, commandOf}
 use Rattle.processor.specs.Command.{figureBegun, commandTaken}
-use Rattle.processor.specs.Parameter.{cursBy, ramBy, pitchBy, maskBy, figsBy}
-use Rattle.processor.specs.Wdat.{setDone, wdatTaken}
+use Rattle.parameters.specs.Parameter.{cursBy, ramBy, pitchBy, maskBy, figsBy}
+use Rattle.wdat.specs.Wdat.{setDone, wdatTaken}
 use Rattle.processor.specs.Entry.{nextOf, parameterTaken, entryTaken}
 use Rattle.figures.specs.Figure.{patternOf, patternAt, lineDirection, errorAfter, directionAt, runningD, figureMoved, figureUnit}
 use Rattle.units.specs.Unit.{fetched, unitDone}

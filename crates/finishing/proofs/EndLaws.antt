@@ -27,8 +27,8 @@ use Rattle.registers.specs.Put.{putBuffer, putProgress}
 use Rattle.registers.specs.State.{State, state}
 use Rattle.commands.specs.Decode.{commandOf}
 use Rattle.processor.specs.Command.{begun, resetDone, figureBegun, characterBegun, readBegun, commandBy, commandTaken}
-use Rattle.processor.specs.Parameter.{ramBy, pitchBy}
-use Rattle.processor.specs.Wdat.{halfB, setDone, wdatTaken}
+use Rattle.parameters.specs.Parameter.{ramBy, pitchBy}
+use Rattle.wdat.specs.Wdat.{halfB, setDone, wdatTaken}
 use Rattle.processor.specs.Entry.{counted, parameterBy, parameterTaken, entryTaken}
 use Rattle.figures.specs.Figure.{figureMoved, figureUnit}
 use Rattle.figures.specs.Character.{characterMoved, characterUnit}

@@ -32,8 +32,8 @@ use Rattle.registers.proofs.BoolLaws.{and-left, and-right}
 use Rattle.commands.specs.Decode.{within, commandOf}
 use Rattle.processor.specs.Command.{begun, resetDone, turned, cursorBytes, penBytes, figureBegun, characterBegun, readBegun}
 use Rattle.processor.specs.Command.{commandBy, commandTaken}
-use Rattle.processor.specs.Parameter.{cursBy, maskBy, figsBy, ramBy, pitchBy, syncBy, ccharBy, zoomBy}
-use Rattle.processor.specs.Wdat.{halfB, wdatPattern, wdatProgress, setDone, wdatTaken}
+use Rattle.parameters.specs.Parameter.{cursBy, maskBy, figsBy, ramBy, pitchBy, syncBy, ccharBy, zoomBy}
+use Rattle.wdat.specs.Wdat.{halfB, wdatPattern, wdatProgress, setDone, wdatTaken}
 use Rattle.processor.specs.Entry.{nextOf, counted, parameterBy, parameterTaken, entryTaken}
 use Rattle.laws.proofs.BranchLaws.{either, cases}
 use Rattle.laws.proofs.SoundLaws.{DrawingFits}

@@ -11,8 +11,8 @@ use Rattle.registers.specs.declared.Command.the-variants.{Gchrd, Curd, Lprd, Wd
 use Rattle.registers.specs.Put.{putCursor, putDrawing, putVideo, putProgress}
 use Rattle.registers.specs.State.{State, state}
 use Rattle.processor.specs.Command.{commandTaken}
-use Rattle.processor.specs.Parameter.{syncBy, ccharBy, zoomBy, cursBy, ramBy, pitchBy, maskBy, figsBy}
-use Rattle.processor.specs.Wdat.{wdatTaken}
+use Rattle.parameters.specs.Parameter.{syncBy, ccharBy, zoomBy, cursBy, ramBy, pitchBy, maskBy, figsBy}
+use Rattle.wdat.specs.Wdat.{wdatTaken}
 
 -- one parameter more has been taken; past the sixteenth they are not told apart
 unfoldable pub nextOf : ℕ → ℕ

@@ -1,4 +1,2 @@
 pub mod Command
-pub mod Parameter
-pub mod Wdat
 pub mod Entry

@@ -6,7 +6,6 @@ ghost use Rattle.processor.specs.Entry.{entryTaken};
 
 pub mod command;
 pub mod parameter;
-pub mod wdat;
 
 // An entry is taken: a command, or the next parameter of the command in progress.
 pub fn entry_taken(r: Registers, e: u16, mem: &mut [u16]) -> Registers

@@ -18,7 +18,7 @@ use Rattle.registers.specs.State.{state}
 use Rattle.commands.specs.Decode.{commandOf, familyOf}
 use Rattle.dots.specs.Operation.{operationOf}
 use Rattle.processor.specs.Command.{commandTaken}
-use Rattle.processor.specs.Parameter.{cursBy, figsBy, zoomBy, ramBy, pitchBy}
+use Rattle.parameters.specs.Parameter.{cursBy, figsBy, zoomBy, ramBy, pitchBy}
 use Rattle.processor.specs.Entry.{nextOf, counted, parameterBy, parameterTaken, entryTaken}
 use Rattle.sending.proofs.WaitLaws.{Waiting, drained, takenBy}
 use Rattle.sending.proofs.SendLaws.{Acts, acts-one}

@@ -16,7 +16,7 @@ use Rattle.registers.specs.declared.Registers.{Registers}
 use Rattle.registers.specs.Fresh.{freshDrawing}
 use Rattle.registers.specs.Put.{putCursor, putPitch, putDrawing, putRam, putVideo, putProgress, putZoom, putGd, putKind, putDir, putDc}
 use Rattle.registers.specs.Put.{putD, putD2, putD1, putDm}
-use Rattle.processor.specs.Parameter.{lowByte, highSix, cursBy, figsBy}
+use Rattle.parameters.specs.Parameter.{lowByte, highSix, cursBy, figsBy}
 use Rattle.sending.proofs.WaitLaws.{Waiting, drained}
 use Rattle.sending.proofs.SendLaws.{Acts, acts-then}
 use Rattle.sending.proofs.EntryLaws.{progress, pitch-command, zoom-command, curs-command, pram-command, figs-command, curs-byte}

@@ -15,7 +15,7 @@ use Rattle.dots.specs.Cycle.{cycled}
 use Rattle.registers.specs.declared.Transfer.{Transfer}
 use Rattle.registers.specs.declared.Command.{Command}
 use Rattle.registers.specs.declared.Command.the-variants.{Wdat}
-use Rattle.processor.specs.Wdat.{halfB, wdatPattern, wdatProgress}
+use Rattle.wdat.specs.Wdat.{halfB, wdatPattern, wdatProgress}
 use Rattle.settings.specs.declared.Settings.{Settings}
 use Rattle.settings.specs.Put.{setCursor, setProgress}
 use Rattle.settings.specs.Settings.{Settlement, settled, oneMore, dataSet, dataAll}

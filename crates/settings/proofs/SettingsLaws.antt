@@ -19,8 +19,8 @@ use Rattle.registers.specs.State.{State, state}
 use Rattle.registers.proofs.BoolLaws.{false-true, and-right}
 use Rattle.commands.specs.Decode.{commandOf}
 use Rattle.processor.specs.Command.{begun, commandBy, commandTaken}
-use Rattle.processor.specs.Parameter.{zoomBy, ramBy, pitchBy}
-use Rattle.processor.specs.Wdat.{halfB, setDone, wdatTaken}
+use Rattle.parameters.specs.Parameter.{zoomBy, ramBy, pitchBy}
+use Rattle.wdat.specs.Wdat.{halfB, setDone, wdatTaken}
 use Rattle.processor.specs.Entry.{counted, parameterBy, parameterTaken, entryTaken}
 use Rattle.settings.specs.declared.Settings.{Settings}
 use Rattle.settings.specs.Put.{setProgress}

@@ -14,7 +14,7 @@ use borrow.Author.Tests.{lt-ltb, le-ltb, ltb-true}
 use Rattle.registers.specs.declared.Transfer.{Transfer}
 use Rattle.registers.specs.declared.Command.{Command}
 use Rattle.registers.specs.declared.Command.the-variants.{Wdat}
-use Rattle.processor.specs.Wdat.{halfB}
+use Rattle.wdat.specs.Wdat.{halfB}
 use Rattle.processor.specs.Entry.{nextOf, counted}
 use Rattle.settings.specs.declared.Settings.{Settings}
 use Rattle.settings.specs.declared.Settled.{Settled}

@@ -18,8 +18,8 @@ use Rattle.registers.specs.Put.{putZoom}
 use Rattle.registers.specs.Width.{commandMark, entryEnd}
 use Rattle.commands.specs.Decode.{commandOf}
 use Rattle.processor.specs.Command.{begun}
-use Rattle.processor.specs.Parameter.{cursBy, maskBy, figsBy}
-use Rattle.processor.specs.Wdat.{halfB, wdatPattern, wdatProgress}
+use Rattle.parameters.specs.Parameter.{cursBy, maskBy, figsBy}
+use Rattle.wdat.specs.Wdat.{halfB, wdatPattern, wdatProgress}
 use Rattle.processor.specs.Entry.{counted}
 use Rattle.settings.specs.declared.Settings.{Settings}
 use Rattle.settings.specs.declared.Settled.{Settled}

@@ -103,11 +103,11 @@ fn data_taken(from: Settings, t: Transfer, entries: &[u16], k: usize, mem: &mut 
             break;
         }
         let v = (e % 256) as u8;
-        if processor::wdat::half(t, next) {
+        if wdat::half(t, next) {
             next = 1;
             low = v;
         } else {
-            dots::cycle(mem, c, processor::wdat::pattern_of(t, low, v), op);
+            dots::cycle(mem, c, wdat::pattern_of(t, low, v), op);
             c = dots::word_move(dir, pitch, c);
             next = 0;
             low = 0;
@@ -196,9 +196,9 @@ pub fn settle(from: Settings, entries: &[u16], k: usize, mem: &mut [u16]) -> Set
             let next = processor::parameter::next_of(i);
             p.progress.next = next;
             match held {
-                Command::Figs => p.drawing = processor::parameter::figs_byte(p.drawing, i, v),
-                Command::Curs => p.cursor = processor::parameter::curs_byte(p.cursor, i, v),
-                Command::Mask => p.cursor = processor::parameter::mask_byte(p.cursor, i, v),
+                Command::Figs => p.drawing = parameters::figs_byte(p.drawing, i, v),
+                Command::Curs => p.cursor = parameters::curs_byte(p.cursor, i, v),
+                Command::Mask => p.cursor = parameters::mask_byte(p.cursor, i, v),
                 Command::Pram => ram_put(&mut p.ram, i, v),
                 Command::Zoom => p.zoom = first_or(i, v, p.zoom),
                 Command::Pitch => p.pitch = first_or(i, v, p.pitch),
