@@ -80,7 +80,7 @@ module _ (sheet : List ℕ) (p h : ℕ) (glyphs : List ℕ) (entries : List ℕ)
   size : length all ≡ a .first
   size = translation-length glyphs p figures ∙ sym (translated-means sheet p h glyphs entries refl accepted .first)
 
-  few : length all ≤ mostListed
+  pub few : length all ≤ 16802
   unfolding slotFigures
   few =
       let k = translated-means sheet p h glyphs entries refl accepted .frame in
@@ -130,14 +130,18 @@ module _ (sheet : List ℕ) (p h : ℕ) (glyphs : List ℕ) (entries : List ℕ)
       → outcome q out′ drawn ≡ allSent a out w (listSent (leftAt w) (take (a .first) out))
       → Right p h glyphs figures (w .sent .regs) (w .mem) q out′ drawn
   right w {q} sound long shown e =
+      let most : length all ≤ mostListed = omega (arith, few) in
       let sends =
       e ∙ ap (λ (l : List ℕ). allSent a out w (listSent (leftAt w) l)) first-written
-      ∙ ap (allSent a out w) (accepted-listed (leftAt w) all sound long few (shown .accepted)) in
+      ∙ ap (allSent a out w) (accepted-listed (leftAt w) all sound long most (shown .accepted)) in
       let first : q .first ≡ a .first = ap (λ (x : Outcome). x .drawn .first) e in
       record {
         number = ap (λ (x : Outcome). x .drawn .number) e;
         entries = ap (λ (x : Outcome). take (x .drawn .first) (x .entries)) e ∙ first-written;
+        first = first ∙ sym size;
         accepted = shown .accepted;
+        sent = ap (λ (o : Outcome). state (o .drawn .regs) (o .mem)) sends;
+        counted = ap (λ (o : Outcome). o .drawn .units) sends;
         idle = subst Ready (sym (ap (λ (x : Outcome). x .drawn .regs) sends)) (shown .idle);
         dots = λ x y i. ap (λ (o : Outcome). dot p x y (o .mem)) sends ∙ shown .dots x y i;
         words = λ j k. ap (λ (o : Outcome). getD (o .mem) j 0) sends ∙ shown .words j k;

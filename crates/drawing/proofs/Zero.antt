@@ -20,15 +20,30 @@ use Rattle.drawing.specs.Draw.{Outcome, outcome, refusal, drawnBy, large
 use Rattle.drawing.specs.Right.{ZeroIsDrawn}
 use Rattle.drawing.proofs.Right.{sheet-is-drawn}
 
+-- a picture of lawful size that is not larger than the memory fits it; one of no words or lines does too
+roomy : (p h n : ℕ) → p < 256 → h ≤ 4096 → p * h ≤ 262144 → largerB p h n ≡ false → p * h ≤ n
+roomy zero h n wide tall area e = omega arith
+roomy (suc p) zero n wide tall area e = let z : suc p * 0 ≡ 0 = omega arith in omega arith
+roomy (suc p) (suc h) n wide tall area e =
+    let lawful : planeB (suc p) (suc h) ≡ true =
+    rw (
+      le-leb 1 (suc p) (omega arith),
+      le-leb (suc p) 255 (omega arith),
+      le-leb 1 (suc h) (omega arith),
+      le-leb (suc h) 4096 tall,
+      le-leb (suc p * suc h) 262144 area,
+    ) in
+    ltb-false n (suc p * suc h) (ap (λ (b : Bool). b && ltb n (suc p * suc h)) (sym lawful) ∙ e)
+
 module _ (sheet : List ℕ) (p h : ℕ) (glyphs : List ℕ) (r : Registers) (entries mem : List ℕ) where
   abbrev a : Answer
   a = translateDef sheet p h glyphs entries .answer
 
-  record Granted : Type 0 where
-    sound : soundB r ≡ true
-    long : lengthB (length mem) ≡ true
-    fits : largerB p h (length mem) ≡ false
-    accepted : a .number ≡ 0
+  pub record Granted : Type 0 where
+    pub sound : soundB r ≡ true
+    pub long : lengthB (length mem) ≡ true
+    pub fits : largerB p h (length mem) ≡ false
+    pub accepted : a .number ≡ 0
 
   -- each refusal has a number
   abbrev by : Bool → Bool → Bool → Outcome
@@ -50,28 +65,17 @@ module _ (sheet : List ℕ) (p h : ℕ) (glyphs : List ℕ) (r : Registers) (ent
       (λ t w. record { sound = e; long = f; fits = g; accepted = eqb-true (a .number) 0 t })
       (λ t w. absurd (eqb-false (a .number) 0 t w)) z
 
-  granted : sheetDrawn sheet p h glyphs r entries mem .drawn .number ≡ 0 → Granted
+  pub zero-granted : sheetDrawn sheet p h glyphs r entries mem .drawn .number ≡ 0 → Granted
   unfolding sheetDrawn
-  granted z = granted-by (soundB r) (lengthB (length mem)) (largerB p h (length mem)) refl refl refl z
+  zero-granted z = granted-by (soundB r) (lengthB (length mem)) (largerB p h (length mem)) refl refl refl z
 
--- a picture of lawful size that is not larger than the memory fits it; one of no words or lines does too
-roomy : (p h n : ℕ) → p < 256 → h ≤ 4096 → p * h ≤ 262144 → largerB p h n ≡ false → p * h ≤ n
-roomy zero h n wide tall area e = omega arith
-roomy (suc p) zero n wide tall area e = let z : suc p * 0 ≡ 0 = omega arith in omega arith
-roomy (suc p) (suc h) n wide tall area e =
-    let lawful : planeB (suc p) (suc h) ≡ true =
-    rw (
-      le-leb 1 (suc p) (omega arith),
-      le-leb (suc p) 255 (omega arith),
-      le-leb 1 (suc h) (omega arith),
-      le-leb (suc h) 4096 tall,
-      le-leb (suc p * suc h) 262144 area,
-    ) in
-    ltb-false n (suc p * suc h) (ap (λ (b : Bool). b && ltb n (suc p * suc h)) (sym lawful) ∙ e)
+  pub zero-fits : Granted → p * h ≤ length mem
+  zero-fits g =
+      let k = translated-means sheet p h glyphs entries refl (g .accepted) .frame in
+      roomy p h (length mem) (k .wide) (k .tall) (k .area) (g .fits)
 
 pub zero-is-drawn : ZeroIsDrawn
 zero-is-drawn sheet p h glyphs r entries mem q out drawn e z bytes typed words =
-    let g = granted sheet p h glyphs r entries mem (ap (λ (o : Outcome). o .drawn .number) (sym e) ∙ z) in
-    let k = translated-means sheet p h glyphs entries refl (g .accepted) .frame in
+    let g = zero-granted sheet p h glyphs r entries mem (ap (λ (o : Outcome). o .drawn .number) (sym e) ∙ z) in
     sheet-is-drawn sheet p h glyphs r entries mem q out drawn e (g .accepted) bytes (g .sound) typed words (g .long)
-    (roomy p h (length mem) (k .wide) (k .tall) (k .area) (g .fits))
+    (zero-fits sheet p h glyphs r entries mem g)

@@ -16,7 +16,7 @@ use Rattle.records.specs.declared.Record.{Record}
 use Rattle.sheets.specs.Slots.{translation}
 use Rattle.sheets.specs.Sheet.{figuresOf, translateDef}
 use Rattle.geometry.specs.Plane.{InPlane}
-use Rattle.sending.specs.Send.{Ready, AllAccepted}
+use Rattle.sending.specs.Send.{Ready, sentAll, AllAccepted, unitsOf}
 use Rattle.demand.specs.Picture.{figuresMade, figuresDots}
 use Rattle.demand.specs.Shown.{Bytes}
 use Rattle.finishing.specs.Finish.{finished}
@@ -29,9 +29,13 @@ pub record Right (p h : ℕ) (glyphs : List ℕ) (figures : List Record) (r : Re
     (out drawn : List ℕ) : Type 0 where
   -- "Success is number 0"
   pub number : q .number ≡ 0
-  -- the lent entries start with the translation, and none of them was refused
+  -- the lent entries start with the translation, so many entries, and none of them was refused
   pub entries : take (q .first) out ≡ translation glyphs p figures
+  pub first : q .first ≡ length (translation glyphs p figures)
   pub accepted : AllAccepted (state r mem) (translation glyphs p figures)
+  -- registers and memory are what they lead to, sent one at a time, and the units are those that their runs report
+  pub sent : state (q .regs) drawn ≡ sentAll (state r mem) (translation glyphs p figures)
+  pub counted : q .units ≡ unitsOf (state r mem) (translation glyphs p figures)
   -- the controller is idle at the end: sound, in write mode, with its buffer empty and nothing being drawn
   pub idle : Ready (q .regs)
   -- every dot of the picture is what the figures, in order, make of the earlier dot

@@ -1,34 +1,17 @@
 -- Entries played one at a time: what is left to play from here, with the units so far, is what was to play from the start. True because
--- `played` takes the first entry of a list first. And a run counts no more than its budget, so 272 of them count no more than 272 budgets.
+-- `played` takes the first entry of a list first.
 use mathlib.Core.Path.{_≡_, sym, ap, _∙_}
 use mathlib.Core.List.{List, _∷_}
-use Prim.Native.Nat.{ℕ, zero, suc, _+_, _*_, _≤_, _<_}
+use Prim.Native.Nat.{ℕ, suc, _+_, _≤_, _<_}
 use native.Mathlib.Omega.{arith}
-use lib.Dec.{eqb}
 use lib.ListN.{length, getD, drop, drop-of-length-le}
 use lib.Seq.{drop-cons}
 use Rattle.registers.specs.declared.Registers.{Registers}
 use Rattle.registers.specs.State.{State, state}
-use Rattle.units.specs.Run.{runDone}
-use Rattle.laws.proofs.BranchLaws.{either}
-use Rattle.laws.proofs.RunLaws.{run-within}
-use Rattle.sending.specs.Send.{written, fullBudget}
+use Rattle.sending.specs.Send.{written}
 use Rattle.finishing.proofs.FinishLaws.{more-more}
-use Rattle.finishing.specs.Finish.{Outcome, outcome, leftAt, more, runsDone, finished}
+use Rattle.finishing.specs.Finish.{Outcome, outcome, leftAt, more, finished}
 use Rattle.easel.specs.Drawing.{entryPlayed, played}
-
-runs-few : (n : ℕ) (s : State) → runsDone n s .sent .units ≤ n * 4294967295
-unfolding runsDone
-runs-few zero s = omega arith
-runs-few (suc n) s =
-    let h = run-within fullBudget s in
-    let next : State = state (runDone fullBudget s .ran .regs) (runDone fullBudget s .mem) in
-    either (λ (x : Outcome). more (runDone fullBudget s .ran .count) x .sent .units ≤ suc n * 4294967295)
-    (eqb (runDone fullBudget s .ran .why) 1) (omega (arith, runs-few n next)) (omega arith)
-
-pub finished-few : (s : State) {o : Outcome} → o ≡ finished s → o .sent .units ≤ 1168231104240
-unfolding finished
-finished-few s e = rw e (runs-few 272 s)
 
 module _ (u i : ℕ) (entries : List ℕ) (s : State) where
   pub plays-on : {p : Registers} {o : Outcome} → i < length entries → p ≡ written (s .regs) (getD entries i 0) .regs

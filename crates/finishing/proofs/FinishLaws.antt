@@ -17,7 +17,7 @@ use Rattle.registers.specs.declared.Registers.{Registers}
 use Rattle.registers.specs.State.{State, state}
 use Rattle.units.specs.Run.{reasonBy, reasonOf, unitsDone, stopped, lengthB, runDone}
 use Rattle.units.specs.Run.{Outcome as RunOutcome}
-use Rattle.laws.proofs.BranchLaws.{cases}
+use Rattle.laws.proofs.BranchLaws.{either, cases}
 use Rattle.laws.proofs.KeptLaws.{Going, SoundSet, Whole, lawful-sound}
 use Rattle.laws.proofs.KeptUnitLaws.{leftBy, run-kept}
 use Rattle.laws.proofs.RunLaws.{Reasoned, run-reason, run-idle, run-counts, run-within}
@@ -107,6 +107,20 @@ waits-already r m v long =
     let busy : reasonOf r ≡ 0 → ⊥ = λ e. omega arith in
     nothing-run 271 (state r m)
     (run-idle fullBudget (state r m) (waiting-sound v 0) long (omega arith) busy ∙ ap (stopped (state r m) 0) z)
+
+-- ---- a run counts no more than its budget, so 272 of them count no more than 272 budgets
+runs-few : (n : ℕ) (s : State) → runsDone n s .sent .units ≤ n * 4294967295
+unfolding runsDone
+runs-few zero s = omega arith
+runs-few (suc n) s =
+    let h = run-within fullBudget s in
+    let next : State = state (runDone fullBudget s .ran .regs) (runDone fullBudget s .mem) in
+    either (λ (x : Outcome). more (runDone fullBudget s .ran .count) x .sent .units ≤ suc n * 4294967295)
+    (eqb (runDone fullBudget s .ran .why) 1) (omega (arith, runs-few n next)) (omega arith)
+
+pub finished-few : (s : State) {o : Outcome} → o ≡ finished s → o .sent .units ≤ 1168231104240
+unfolding finished
+finished-few s e = rw e (runs-few 272 s)
 
 -- ---- the loop of `finish`
 pub more-more : (u v : ℕ) (o : Outcome) → more u (more v o) ≡ more (u + v) o

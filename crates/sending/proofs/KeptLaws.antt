@@ -1,22 +1,12 @@
 -- Entries sent, whatever they are, keep a lawful register set lawful and the memory's words 16 bits wide: each port and each run
 -- keeps them, by crate laws.
 use mathlib.Core.List.{List, [], _∷_}
-use Prim.Native.Nat.{ℕ, _%_}
-use native.Mathlib.Omega.{arith}
-use lib.Dec.{ltb}
-use borrow.Author.Tests.{ltb-true}
-use Rattle.registers.specs.declared.Registers.{Registers}
+use Prim.Native.Nat.{ℕ}
 use Rattle.registers.specs.State.{State, state}
-use Rattle.laws.proofs.BranchLaws.{cases}
-use Rattle.laws.proofs.KeptLaws.{SoundSet, Whole}
+use Rattle.laws.proofs.KeptLaws.{Whole}
 use Rattle.laws.proofs.KeptUnitLaws.{run-kept}
-use Rattle.laws.proofs.KeptPortLaws.{Answers, command-written-kept, parameter-written-kept}
 use Rattle.sending.specs.Send.{written, fullBudget, sent, left, sentAll}
-
-written-kept : (r : Registers) → SoundSet r → (e : ℕ) → Answers (written r e)
-written-kept r l e =
-    cases Answers (ltb e 256) (λ t. parameter-written-kept r l e (ltb-true e 256 t))
-    (λ t. command-written-kept r l (e % 256) (omega arith))
+use Rattle.sending.proofs.PortLaws.{written-kept}
 
 module _ (n : ℕ) where
   pub sent-kept : (s : State) → Whole n s → (e : ℕ) → Whole n (left (sent s e))

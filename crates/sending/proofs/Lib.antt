@@ -1,5 +1,6 @@
 pub mod RunLaws
 pub mod WaitLaws
+pub mod PortLaws
 pub mod KeptLaws
 pub mod SendLaws
 pub mod ReadLaws

@@ -1,33 +1,22 @@
--- Entries sent one at a time: the port of one, its run, and the list. What is left to send from here, with what was taken and the units
--- so far, is what was to send from the start. True because `takenOf`, `numberAt`, `sentAll` and `unitsOf` take the first entry of a
--- list first.
+-- Entries sent one at a time: one, and the list. What is left to send from here, with what was taken and the units so far, is what was
+-- to send from the start. True because `takenOf`, `numberAt`, `sentAll` and `unitsOf` take the first entry of a list first.
 use mathlib.Core.Path.{_≡_, refl, sym, ap, ap₂, _∙_}
 use mathlib.Core.Bool.{Bool, true, false}
 use mathlib.Core.List.{List, [], _∷_}
-use Prim.Native.Nat.{ℕ, suc, _+_, _%_, min, _≤_, _<_}
+use Prim.Native.Nat.{ℕ, suc, _+_, min, _≤_, _<_}
 use native.Mathlib.Omega.{arith}
 use lib.Dec.{eqb, leb}
 use lib.ListN.{length, getD, take, drop, length-take, drop-of-length-le}
 use lib.Seq.{drop-cons, take-all, take-length}
-use borrow.Author.Tests.{lt-ltb, le-ltb, eqb-true, eq-eqb, ne-eqb, leb-true, leb-false}
-use Rattle.registers.specs.declared.Registers.{Registers}
+use borrow.Author.Tests.{eqb-true, eq-eqb, ne-eqb, leb-true, leb-false}
 use Rattle.registers.specs.Sound.{soundB}
 use Rattle.registers.specs.State.{State, state}
 use Rattle.ports.specs.declared.Answer.{Answer}
-use Rattle.ports.specs.Port.{commandWritten, parameterWritten}
 use Rattle.units.specs.Run.{Outcome, lengthB, runDone}
 use Rattle.laws.proofs.BranchLaws.{cases}
 use Rattle.sending.specs.Send.{written, sent, left, sentAll, unitsOf, AllAccepted}
 use Rattle.sends.specs.Sends.{ListOutcome, listed, takenOf, numberAt, takenFrom, listTaken}
 use Rattle.sends.specs.Sends.{listRefused, mostListed, listSent}
-
--- ---- the port
-module _ (r : Registers) (e : ℕ) where
-  pub by-parameter : {a : Answer} → e < 256 → a ≡ parameterWritten r (e % 256) → a ≡ written r e
-  by-parameter h q = let f : e % 256 ≡ e = omega arith in rw (q, f, lt-ltb e 256 h)
-
-  pub by-command : {a : Answer} → 256 ≤ e → a ≡ commandWritten r (e % 256) → a ≡ written r e
-  by-command h q = rw (q, le-ltb e 256 h)
 
 -- ---- a list, behind k entries that were taken with u units
 abbrev pub wentOn : ℕ → ℕ → State → List ℕ → ListOutcome

@@ -20,7 +20,7 @@ pub struct Listed {
 }
 
 // An entry goes to its port: a byte, and 256 more for a command.
-fn at_port(r: Registers, e: u16) -> Answer
+pub fn at_port(r: Registers, e: u64) -> Answer
     ensures { λ a. ⌜ a ≡ written r e ⌝ }
 {
     let byte = (e % 256) as u8;
@@ -34,7 +34,7 @@ fn at_port(r: Registers, e: u16) -> Answer
 pub fn to_port(r: Registers, e: u16) -> Registers
     ensures { λ q. ⌜ q ≡ written r e .regs ⌝ }
 {
-    let a = at_port(r, e);
+    let a = at_port(r, e as u64);
     a.regs
 }
 
@@ -42,7 +42,7 @@ pub fn to_port(r: Registers, e: u16) -> Registers
 pub fn send_one(r: Registers, e: u16, mem: &mut [u16]) -> Listed
     ensures { λ q. ⌜ listed q (now (mem .exit)) ≡ listTaken (state r (now (mem .entry))) (e ∷ []) ⌝ }
 {
-    let a = at_port(r, e);
+    let a = at_port(r, e as u64);
     if a.number != 0 {
         return Listed {
             number: a.number,
@@ -52,11 +52,12 @@ pub fn send_one(r: Registers, e: u16, mem: &mut [u16]) -> Listed
         };
     }
     let q = units::run(a.regs, mem, 4294967295);
+    let units = q.count as u64;
     let regs = q.regs;
     Listed {
         number: 0,
         taken: 1,
-        units: q.count as u64,
+        units: units,
         regs: regs,
     }
 }

@@ -1,5 +1,5 @@
 -- `at_port` writes an entry to its port: the two ports of `written`, with the byte of the entry.
-use Rattle.sends.proofs.SendLaws.{by-parameter, by-command}
+use Rattle.sending.proofs.PortLaws.{to-parameter, to-command}
 use borrow.Author.Needs.{needs}
 use Rattle.sends.proofs.at_port.Statement.{statement}
 use Rattle.sends.proofs.at_port.Tie as tie
@@ -11,13 +11,13 @@ write-parameter-requires : tie.Need-write-parameter-requires
 write-parameter-requires c κs = search needs
 
 returns : tie.Need-returns
-returns c = by-parameter _ _ (c .before .if1 .taken) (c .write-parameter .ensures)
+returns c = to-parameter _ _ (c .before .if1 .taken) (c .write-parameter .ensures)
 
 write-command-requires : tie.Need-write-command-requires
 write-command-requires c κs = search needs
 
 returns-2 : tie.Need-returns-2
-returns-2 c = by-command _ _ (c .before .if1 .left) (c .write-command .ensures)
+returns-2 c = to-command _ _ (c .before .if1 .left) (c .write-command .ensures)
 
 pub at-port-spec : {M : Type 1} → statement M
 at-port-spec =

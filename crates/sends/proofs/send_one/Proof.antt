@@ -13,8 +13,8 @@ returns c = sent-not _ _ (c .before .before .at-port .ensures) (c .if1 .taken)
 run-requires : tie.Need-run-requires
 run-requires c κs = search needs
 
-cast-t10 : tie.Need-cast-t10
-cast-t10 c = search needs
+cast-units : tie.Need-cast-units
+cast-units c = search needs
 
 same-length : tie.Need-same-length
 same-length c = search needs
@@ -26,4 +26,4 @@ returns-2 c =
 
 pub send-one-spec : {M : Type 1} → statement M
 send-one-spec =
-    tie.close (tie.spec at-port-requires returns run-requires cast-t10 same-length returns-2)
+    tie.close (tie.spec at-port-requires returns run-requires cast-units same-length returns-2)

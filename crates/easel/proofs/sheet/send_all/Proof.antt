@@ -10,7 +10,8 @@ use Rattle.registers.specs.State.{state}
 use Rattle.finishing.specs.Finish.{more}
 use Rattle.finishing.proofs.FinishLaws.{none-more}
 use Rattle.easel.specs.Drawing.{played}
-use Rattle.easel.proofs.PlayLaws.{finished-few, plays-on, plays-out}
+use Rattle.finishing.proofs.FinishLaws.{finished-few}
+use Rattle.easel.proofs.PlayLaws.{plays-on, plays-out}
 use Rattle.easel.proofs.sheet.send_all.Statement.{statement}
 use Rattle.easel.proofs.sheet.send_all.Tie as tie
 

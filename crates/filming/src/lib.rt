@@ -1,0 +1,1 @@
+// No code: what a replayed record shows, of a sheet's listing and at each moment (specs/Film.antt).

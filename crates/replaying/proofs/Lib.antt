@@ -1,0 +1,5 @@
+pub mod EventLaws
+pub mod ListLaws
+pub mod PartLaws
+pub mod TakenLaws
+pub mod ListingLaws
