@@ -1,9 +1,9 @@
-// Decimal numbers of a program's arguments.
+// Decimal numbers of 32 bits.
 ghost use mathlib.Core.Path.{_≡_};
 ghost use Prim.Native.Nat.{_≤_};
 ghost use Rattle.decimals.specs.Decimal.{tenOf, decimalOf};
 
-// A number of an argument, or that it is none.
+// The number that a text is, or that it is none.
 pub enum Number {
     Bad,
     Is(u32),
@@ -22,25 +22,25 @@ fn digit_of(c: u8) -> u8
     c - b'0'
 }
 
-// The decimal number that a text is; it has one digit to nine.
+// The decimal number that a text is; it has one digit or more, and 32 bits.
 pub fn number_of(text: &[u8]) -> Number
     ensures { λ r. ⌜ r ≡ decimalOf (now (text .entry)) ⌝ }
 {
     if text.len() == 0 {
         return Number::Bad;
     }
-    if 9 < text.len() {
-        return Number::Bad;
-    }
-    let mut value: u32 = 0;
+    let mut value: u64 = 0;
     let mut i: usize = 0;
     while i < text.len() {
         let d = digit_of(text[i]);
         if d == 10 {
             return Number::Bad;
         }
-        value = 10 * value + d as u32;
+        value = 10 * value + d as u64;
+        if 4294967295 < value {
+            return Number::Bad;
+        }
         i += 1;
     }
-    Number::Is(value)
+    Number::Is(value as u32)
 }

@@ -52,48 +52,16 @@ fn read_glyphs(table: &mut [u8]) -> Table {
     Table::Bytes(got)
 }
 
-// A row of P words, of two bytes each, is made.
-fn fill_row(words: &[u16], p: u32, row: &mut [u8]) {
-    let n = buffers::bytes_used(2 * p as usize, row);
-    bitmap::fill_image(words, p, &mut row[..n]);
-}
-
-// It is written.
-fn write_row(p: u32, row: &[u8]) {
-    let n = buffers::bytes_used(2 * p as usize, row);
-    io::write_all(1, &row[..n]);
-}
-
-// The rows, each of P words.
-fn write_rows(mem: &[u16], p: u32, h: u32, row: &mut [u8]) {
-    let width = p as usize;
-    let mut at: usize = 0;
-    let mut y: u32 = 0;
-    while y < h {
-        if mem.len() - at < width {
-            return;
-        }
-        fill_row(&mem[at..], p, row);
-        write_row(p, row);
-        at += width;
-        y += 1;
+// The picture is written, by way of a room.
+fn show_by(mem: &[u16], p: u32, h: u32, room: &mut [u8]) {
+    if !pages::write_page(mem, p, h, room) {
+        complain(b"the picture cannot be written");
     }
 }
 
-// The size in dots, as the format has it.
-fn write_header(p: u32, h: u32) {
-    io::write_all(1, b"P4\n");
-    io::print_decimal(1, 16 * p as u64);
-    io::write_all(1, b" ");
-    io::print_decimal(1, h as u64);
-    io::write_all(1, b"\n");
-}
-
-// The header and the rows.
-fn write_picture(mem: &[u16], p: u32, h: u32) {
-    write_header(p, h);
-    let mut row = [0u8; 510];
-    write_rows(mem, p, h, &mut row);
+fn show(mem: &[u16], p: u32, h: u32) {
+    let mut room = [0u8; 524288];
+    show_by(mem, p, h, &mut room);
 }
 
 // The sheet is drawn from fresh registers over a memory of zeros.
@@ -104,7 +72,7 @@ fn draw(sheet: &[u8], p: u32, h: u32, glyphs: &[u8], mem: &mut [u16]) {
         sentences::say_refusal(2, d.number, d.first, d.second);
         return;
     }
-    write_picture(mem, p, h);
+    show(mem, p, h);
 }
 
 // The sheet is read, and drawn in that many words.
@@ -137,7 +105,7 @@ fn picture_in(p: u32, h: u32, words: u32) {
 }
 
 fn wrong_number() {
-    complain(b"P, H and WORDS are decimal numbers of at most nine digits");
+    complain(b"P, H and WORDS are decimal numbers of 32 bits");
 }
 
 fn main() {

@@ -1,10 +1,12 @@
-// What a number of refusal means, in document 01's words: the sentence that `listing` and `picture` say.
+// What a number of refusal means, in document 01's words: the sentence that `listing`, `picture` and `replay` say.
 
 // What was refused, and why.
 fn say_meaning(fd: i32, number: u8) -> bool {
     match number {
         1 => io::write_all(fd, b"the register set is unsound"),
         2 => io::write_all(fd, b"the memory's length is wrong"),
+        3 => io::write_all(fd, b"in write mode the buffer holds 16"),
+        4 => io::write_all(fd, b"a parameter byte in read mode"),
         11 => io::write_all(fd, b"P, H or P times H is out of range"),
         12 => io::write_all(fd, b"the glyph bytes are no multiple of 8, or over 2,048"),
         13 => io::write_all(fd, b"the sheet's length is wrong"),

@@ -1,0 +1,4 @@
+pub mod HeldLaws
+pub mod Laws
+pub mod ListingLaws
+pub mod QuietLaws
