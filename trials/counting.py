@@ -12,7 +12,7 @@ from chip import Chip                # noqa: E402
 from commands import NAMES           # noqa: E402
 from reads import READ_MODE, WRITE_MODE  # noqa: E402
 from rows import (  # noqa: E402
-    DIRECTIONS, MOST_PARAMETERS, OPERATION_NAMES, TRANSFERS, class_of_command, reached, wide_marks)
+    DIRECTIONS, MOST_PARAMETERS, OPERATION_NAMES, PLACES, TRANSFERS, class_of_command, reached, wide_marks)
 
 
 class CountingChip(Chip):
@@ -128,6 +128,8 @@ class CountingChip(Chip):
             reached("parameter of an unknown byte")
         elif name in MOST_PARAMETERS:
             reached("parameter %s %s" % (name, number if number <= MOST_PARAMETERS[name] else "surplus"))
+            if name == "CURS" and number == 3:
+                reached("CURS names dot %d" % (byte >> 4))
         elif name == "PRAM":
             reached("parameter PRAM " + ("kept" if self.command % 16 + number <= 16 else "past 15"))
         elif name == "WDAT":
@@ -163,6 +165,9 @@ class CountingChip(Chip):
         figure = self.figure
         many[count_cycle, figure and figure.kind, figure and figure.direction, self.operation, pattern & 1,
              MASKS.get(bin(self.mask).count("1"), "of other bits"), self.ead >= len(self.memory)] += 1
+        if figure is not None and self.mask in DOTS:
+            place = 0 if figure.place == 0 else 2 if figure.place == figure.dots - 1 else 1
+            many[count_dot, place, DOTS[self.mask]] += 1
         Chip.memory_cycle(self, pattern)
 
     def start_figure(self, kind, dots):
@@ -211,6 +216,7 @@ class CountingChip(Chip):
 
 many = Counter()
 MASKS = {0: "0000", 1: "one bit", 16: "FFFF"}
+DOTS = {1 << dot: dot for dot in range(16)}
 
 
 def count_cycle(times, kind, direction, operation, bit, mask, folded):
@@ -221,6 +227,10 @@ def count_cycle(times, kind, direction, operation, bit, mask, folded):
         reached("%s along %s" % (kind, DIRECTIONS[direction]), times)
         reached("%s by %s" % (kind, OPERATION_NAMES[operation]), times)
         reached("%s, pattern bit %d" % (kind, bit), times)
+
+
+def count_dot(times, place, dot):
+    reached("a figure's %s dot at dot %d of a word" % (PLACES[place], dot), times)
 
 
 def counting_step(ead, mask, direction, pitch):

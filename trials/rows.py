@@ -18,6 +18,7 @@ OPERATION_NAMES = ["REPLACE", "COMPLEMENT", "RESET", "SET"]
 TRANSFERS = {0: "word", 2: "low byte", 3: "high byte"}
 KINDS = ["dots", "line", "rectangle", "character"]
 MOST_PARAMETERS = {"RESET": 8, "CCHAR": 3, "ZOOM": 1, "CURS": 3, "PITCH": 1, "MASK": 2, "FIGS": 11}
+PLACES = ["first", "inner", "last"]
 SHEET_KINDS = ["dot", "line", "line of one dot", "diagonal line", "rectangle", "flat rectangle",
                "standing rectangle", "rectangle of one dot", "glyph"]
 
@@ -90,6 +91,7 @@ def rows_of_parameters():
         table += ["parameter %s %d" % (name, number) for number in range(1, most + 1)]
         table.append("parameter %s surplus" % name)
         table += ["cut short: %s after %d" % (name, number) for number in range(0, most)]
+    table += ["CURS names dot %d" % dot for dot in range(16)]
     table += ["parameter PRAM kept", "parameter PRAM past 15"]
     table += ["parameter WDAT " + what for what in ("first of a word", "second of a word", "low byte", "high byte")]
     table += ["parameter before any command", "parameter of an unknown byte"]
@@ -106,6 +108,7 @@ def rows_of_figures():
     table += ["%s by %s" % (kind, operation) for kind in KINDS for operation in OPERATION_NAMES]
     table += ["%s, pattern bit %d" % (kind, bit) for kind in KINDS for bit in (0, 1)]
     table += ["%s %s" % (kind, end) for kind in KINDS for end in ("ends in its last dot", "cut by RESET")]
+    table += ["a figure's %s dot at dot %d of a word" % (place, dot) for place in PLACES for dot in range(16)]
     table += ["figure of no dots: rectangle", "figure of no dots: character"]
     table += ["line: D negative", "line: D zero or more", "line: the sum wraps"]
     table += ["rectangle: D = 0 only", "rectangle: D2 = 0 only", "rectangle: both sides"]
