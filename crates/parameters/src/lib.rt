@@ -8,12 +8,12 @@ ghost use Prim.Native.Nat.{_<_, _^_};
 ghost use Rattle.parameters.specs.Parameter.{lowByte, highByte, highSix, cursBy, maskBy, figsBy, syncBy, ccharBy, zoomBy, ramBy};
 ghost use Rattle.parameters.specs.Parameter.{pitchBy};
 
-// The mask of one bit.
+// The mask of one bit, from the table.
 fn dot_mask(n: u8) -> u16
     requires { ⌜ n < 16 ⌝ }
     ensures { λ m. ⌜ m ≡ 2 ^ n ⌝ }
 {
-    1u16 << n
+    dots::MASKS[n as usize]
 }
 
 // CURS.

@@ -3,7 +3,7 @@
 use mathlib.Core.Path.{_≡_, sym, ap, _∙_}
 use mathlib.Core.Bool.{Bool, true, false, cond}
 use mathlib.Core.List.{List}
-use Prim.Native.Nat.{ℕ, zero, suc, _+_, _-_, _*_, _/_, _%_, _^_, _<_, _≤_}
+use Prim.Native.Nat.{ℕ, zero, suc, _+_, _-_, _*_, _/_, _%_, _<_, _≤_}
 use native.Mathlib.Decide.{decLe}
 use native.Mathlib.Omega.{arith}
 use lib.Dec.{leb}
@@ -50,12 +50,12 @@ stride-lt (suc (suc (suc (suc (suc (suc (suc d))))))) h p = omega arith
 pub stride-small : {dir h n : ℕ} → Stride dir h n → n < 8388608
 stride-small {dir} {h} s = rw (s .is) (stride-lt dir h (s .narrow))
 
--- a mask of one bit has a bit address
-pub address-stands : (c : Cursor) (n : ℕ) {m : ℕ} → n < 16 → m ≡ 2 ^ n → m ≡ c .mask → cursorAt (c .ead * 16 + n) ≡ c
+-- a mask that is the one bit of its bit address has that address
+pub address-stands : (c : Cursor) (n : ℕ) {there : Cursor} → n < 16 → there ≡ cursorAt (c .ead * 16 + n) → there .mask ≡ c .mask
+    → cursorAt (c .ead * 16 + n) ≡ c
 address-stands c n h p q =
     let e : (c .ead * 16 + n) / 16 ≡ c .ead = omega arith in
-    let f : (c .ead * 16 + n) % 16 ≡ n = omega arith in
-    λ i. record { ead = e i; mask = (ap (λ (k : ℕ). 2 ^ k) f ∙ sym p ∙ q) i }
+    λ i. record { ead = e i; mask = (sym (ap (λ (d : Cursor). d .mask) p) ∙ q) i }
 
 -- ---- a line
 kept-packed : (d a e x : ℕ) → a < 4194304 → x < 8388608 → kept (pack d a + pack e x) ≡ pack ((d + e) % 16384) ((a + x) % 4194304)

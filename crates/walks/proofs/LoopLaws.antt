@@ -1,15 +1,22 @@
 -- The loops over bit addresses: what is left to do from here is what was to do from the start.
-use mathlib.Core.Path.{_≡_, ap}
+use mathlib.Core.Path.{_≡_, ap, _∙_}
 use mathlib.Core.Bool.{Bool, true, false, cond}
 use mathlib.Core.List.{List}
-use Prim.Native.Nat.{ℕ, zero, suc, _+_, _-_, _%_, _<_, _≤_}
+use Prim.Native.Nat.{ℕ, zero, suc, _+_, _-_, _/_, _%_, _<_, _≤_}
 use native.Mathlib.Omega.{arith}
 use lib.Dec.{leb}
+use lib.ListN.{getD}
 use Rattle.dots.specs.declared.Operation.{Operation}
 use Rattle.dots.specs.Cycle.{cycled}
 use Rattle.dots.specs.Dot.{cursorAt}
+use Rattle.dots.proofs.MaskLaws.{masks, mask-at}
 use Rattle.figures.specs.Figure.{patternOf}
 use Rattle.walks.specs.Address.{kept, lineStepped, Walked, walked, lineWalk, straightWalk}
+
+-- a cycle with the mask that the table has is one at the bit address
+pub cycle-at : (op : Operation) (a p : ℕ) (m l : List ℕ) {o : Operation} → o ≡ op
+    → l ≡ cycled o p (record { ead = a / 16; mask = getD masks (a % 16) 0 }) m → l ≡ cycled op p (cursorAt a) m
+cycle-at op a p m l eo e = e ∙ (λ i. cycled (eo i) p (record { ead = a / 16; mask = mask-at (a % 16) (omega arith) i }) m)
 
 -- the packed number stays within 48 bits
 pub stepped-lt : (axis diagonal s : ℕ) → lineStepped axis diagonal s < 281474976710656

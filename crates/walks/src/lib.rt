@@ -57,7 +57,7 @@ pub fn row_dots(mem: &mut [u16], b: Brush, y: u32, x: u32, from: Cursor, end: u3
     let at = bits::address_of(from);
     if at < 4194304 {
         if registers::factor_of(b.zoom) == 1 {
-            return bits::cursor_at(side::row_bits(mem, b, y, x, at, end));
+            return dots::cursor_at(side::row_bits(mem, b, y, x, at, end));
         }
     }
     steps::plain_row(mem, b, y, x, from, end)
@@ -70,7 +70,7 @@ pub fn rows_dots(mem: &mut [u16], b: Brush, y: u32, from: Cursor, end: u32) -> C
     let at = bits::address_of(from);
     if at < 4194304 {
         if registers::factor_of(b.zoom) == 1 {
-            return bits::cursor_at(side::rows_bits(mem, b, y, at, end));
+            return dots::cursor_at(side::rows_bits(mem, b, y, at, end));
         }
     }
     steps::plain_rows(mem, b, y, from, end)

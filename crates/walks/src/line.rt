@@ -2,7 +2,7 @@
 use crate::Brush;
 use crate::Reached;
 use crate::bits::stride;
-use crate::bits::touch;
+use dots::Cursor;
 use dots::Operation;
 ghost use mathlib.Core.Path.{_≡_};
 ghost use Prim.Native.Nat.{_+_, _-_, _<_};
@@ -37,7 +37,8 @@ fn line_step(axis: u64, diagonal: u64, s: u64) -> u64
     keep(s + diagonal)
 }
 
-// Dots k to end, each with the step after it.
+// Dots k to end, each with the step after it. An operation's number that is known where this is called leaves one case of the four; the
+// table of masks is laid out once, before the first dot.
 fn line_loop(
     mem: &mut [u16],
     kind: u8,
@@ -52,15 +53,19 @@ fn line_loop(
     requires { ⌜ (from < 281474976710656) × ((axis < 281474976710656) × (diagonal < 281474976710656)) ⌝ }
     ensures { λ q. ⌜ walked q (now (mem .exit)) ≡ lineWalk (operationOf kind) low high axis diagonal (end - k) k from (now (mem .entry)) ⌝ }
 {
+    let masks = dots::MASKS;
     let mut s = from;
     let mut i = k;
     while i < end {
-        touch(
-            mem,
-            kind,
-            (s % 4194304) as u32,
-            figures::figure::pattern_of(low, high, i),
-        );
+        let a = (s % 4194304) as u32;
+        let n = (a % 16) as usize;
+        let pattern = figures::figure::pattern_of(low, high, i);
+        let mask = masks[n];
+        let c = Cursor {
+            ead: a / 16,
+            mask: mask,
+        };
+        dots::cycle(mem, c, pattern, dots::operation_of(kind));
         s = line_step(axis, diagonal, s);
         i += 1;
     }
@@ -140,7 +145,7 @@ pub(crate) fn line_dots(mem: &mut [u16], b: Brush, at: u32, d: u16, k: u32, end:
         packed(at, d),
         end,
     );
-    let c = crate::bits::cursor_at((s % 4194304) as u32);
+    let c = dots::cursor_at((s % 4194304) as u32);
     Reached {
         cursor: c,
         d: (s / 4294967296 % 65536) as u16,

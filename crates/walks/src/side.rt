@@ -2,7 +2,7 @@
 use crate::Brush;
 use crate::Reached;
 use crate::bits::stride;
-use crate::bits::touch;
+use dots::Cursor;
 use dots::Operation;
 use registers::Drawing;
 ghost use mathlib.Core.Path.{_≡_};
@@ -13,7 +13,7 @@ ghost use Rattle.registers.specs.Size.{lineKind, factorOf};
 ghost use Rattle.walks.specs.Walk.{led, figureWalk, stood, rowWalk, rowsWalk};
 ghost use Rattle.walks.specs.Address.{walked, straightWalk, Side, rowByte};
 
-// Dots k to end along one direction, each with the step after it.
+// Dots k to end along one direction, each with the step after it; number and table as for a line.
 fn straight_loop(
     mem: &mut [u16],
     kind: u8,
@@ -27,10 +27,18 @@ fn straight_loop(
     requires { ⌜ (at < 4194304) × (step < 8388608) ⌝ }
     ensures { λ q. ⌜ walked q (now (mem .exit)) ≡ straightWalk (operationOf kind) low high step (end - k) k at (now (mem .entry)) ⌝ }
 {
+    let masks = dots::MASKS;
     let mut a = at;
     let mut i = k;
     while i < end {
-        touch(mem, kind, a, figures::figure::pattern_of(low, high, i));
+        let n = (a % 16) as usize;
+        let pattern = figures::figure::pattern_of(low, high, i);
+        let mask = masks[n];
+        let c = Cursor {
+            ead: a / 16,
+            mask: mask,
+        };
+        dots::cycle(mem, c, pattern, dots::operation_of(kind));
         a = (a + step) % 4194304;
         i += 1;
     }
@@ -131,7 +139,7 @@ pub(crate) fn side_dots(mem: &mut [u16], b: Brush, at: u32, d: u16, k: u32, end:
         a = straight_any(mem, op, ram[8], ram[9], step, i, a, e);
         i = e;
     }
-    let c = crate::bits::cursor_at(a);
+    let c = dots::cursor_at(a);
     Reached { cursor: c, d: d }
 }
 

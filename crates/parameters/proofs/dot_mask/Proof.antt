@@ -1,16 +1,18 @@
--- `dot_mask` is a power of two: sixteen cases, computed.
-use Rattle.dots.proofs.Below.{below}
-use Prim.Native.Nat.{_*_, _%_, _^_}
-use lib.Dec.{eqb, eqb→eq}
+-- `dot_mask` is a power of two: the word that it reads is (`mask-at`).
+use Rattle.dots.proofs.MaskLaws.{mask-at}
+use native.Mathlib.Omega.{arith}
 use borrow.Author.Needs.{needs}
 use Rattle.parameters.proofs.dot_mask.Statement.{statement}
 use Rattle.parameters.proofs.dot_mask.Tie as tie
 
-shl-result : tie.Need-shl-result
-shl-result c = search needs
+mul-result : tie.Need-mul-result
+mul-result c = omega arith
+
+array-read-result : tie.Need-array-read-result
+array-read-result c = search needs
 
 returns : tie.Need-returns
-returns c = eqb→eq _ _ (below (λ k. eqb (1 * 2 ^ k % 65536) (2 ^ k)) 16 tt (c .args .n) (search needs))
+returns c = mask-at _ (search needs)
 
 pub dot-mask-spec : {M : Type 1} → statement M
-dot-mask-spec = tie.close (tie.spec shl-result returns)
+dot-mask-spec = tie.close (tie.spec mul-result array-read-result returns)

@@ -1,12 +1,12 @@
 -- `line_loop`: what is left to do from here is what was to do from the start (`line-on`).
 use mathlib.Core.Path.{_≡_, refl, sym, _∙_}
 use mathlib.Core.List.{List}
-use Prim.Native.Nat.{ℕ, _-_, _<_}
+use Prim.Native.Nat.{ℕ, _-_, _%_, _<_}
 use native.Mathlib.Omega.{arith}
 use lib.ListN.{length}
 use Rattle.dots.specs.Operation.{operationOf}
 use Rattle.walks.specs.Address.{lineWalk}
-use Rattle.walks.proofs.LoopLaws.{stepped-lt, line-on, line-end}
+use Rattle.walks.proofs.LoopLaws.{cycle-at, stepped-lt, line-on, line-end}
 use borrow.Author.Needs.{needs}
 use Rattle.walks.proofs.line.line_loop.Statement.{statement}
 use Rattle.walks.proofs.line.line_loop.Tie as tie
@@ -18,22 +18,34 @@ record Going (mem₀ : List ℕ) (kind low high axis diagonal k end s₀ : ℕ) 
       ≡ lineWalk (operationOf kind) low high axis diagonal (end - i) i s mem
 
 abbrev Inv-loop : tie.InvT-loop
-Inv-loop mem₀ kind low high axis diagonal k from end s₀ i₀ mem s i = Going mem₀ kind low high axis diagonal k end s₀ mem s i
+Inv-loop mem₀ kind low high axis diagonal k from end masks s₀ i₀ mem s i = Going mem₀ kind low high axis diagonal k end s₀ mem s i
 
 abbrev μ-loop : tie.MeasureT-loop
-μ-loop mem₀ kind low high axis diagonal k from end s₀ i₀ mem s i = end - i
+μ-loop mem₀ kind low high axis diagonal k from end masks s₀ i₀ mem s i = end - i
 
 loop-holds : tie.Need-loop-holds Inv-loop μ-loop
 loop-holds c = record { small = search needs; long = refl; same = refl }
 
-cast-touch : tie.Need-cast-touch Inv-loop μ-loop
-cast-touch c = search needs
+cast-a : tie.Need-cast-a Inv-loop μ-loop
+cast-a c = search needs
+
+cast-n : tie.Need-cast-n Inv-loop μ-loop
+cast-n c = search needs
 
 pattern-of-requires : tie.Need-pattern-of-requires Inv-loop μ-loop
 pattern-of-requires c κs = search needs
 
-touch-requires : tie.Need-touch-requires Inv-loop μ-loop
-touch-requires c κs = search needs
+mul-mask : tie.Need-mul-mask Inv-loop μ-loop
+mul-mask c = omega arith
+
+array-read-mask : tie.Need-array-read-mask Inv-loop μ-loop
+array-read-mask c = search needs
+
+operation-of-requires : tie.Need-operation-of-requires Inv-loop μ-loop
+operation-of-requires c κs = search needs
+
+cycle-requires : tie.Need-cycle-requires Inv-loop μ-loop
+cycle-requires c κs = search needs
 
 line-step-requires : tie.Need-line-step-requires Inv-loop μ-loop
 line-step-requires c κs = search needs
@@ -45,13 +57,15 @@ loop-less : tie.Need-loop-less Inv-loop μ-loop
 loop-less c = omega arith
 
 loop-again : tie.Need-loop-again Inv-loop μ-loop
-loop-again c = let l = c .before .before .before .before .before .before .before .loop in
+loop-again c = let l = c .before .before .before .before .before .before .before .before .loop in
+    let p = c .before .before .before .before .before .before .pattern-of in
+    let x = c .before .before .before .cycle in
+    let o = c .before .before .before .before .operation-of in
     record {
       small = rw (c .line-step .ensures) (stepped-lt _ _ _);
-      long = c .before .before .before .touch .kept .0 ∙ l .inv .long;
-      same = l .inv .same ∙ line-on _ _ _ _ _ _ _ _ _ (c .before .before .before .before .before .before .loop-test .taken)
-          (c .before .before .before .before .pattern-of .ensures) (c .before .before .before .touch .ensures)
-          (c .line-step .ensures);
+      long = x .kept .0 ∙ l .inv .long;
+      same = l .inv .same ∙ line-on _ _ _ _ _ _ _ _ _ (c .before .before .before .before .before .before .before .loop-test .taken)
+          (p .ensures) (cycle-at _ (l .s % 4194304) (p .result) (l .mem) _ (o .ensures) (x .ensures)) (c .line-step .ensures);
     }
 
 same-length : tie.Need-same-length Inv-loop μ-loop
@@ -67,9 +81,13 @@ line-loop-spec =
     Inv-loop
     μ-loop
     loop-holds
-    cast-touch
+    cast-a
+    cast-n
     pattern-of-requires
-    touch-requires
+    mul-mask
+    array-read-mask
+    operation-of-requires
+    cycle-requires
     line-step-requires
     add-i
     loop-less
