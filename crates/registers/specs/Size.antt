@@ -1,5 +1,5 @@
 -- 01, Steps and figures: how large a figure is.
-use Prim.Native.Nat.{ℕ, _+_, _*_, _%_}
+use Prim.Native.Nat.{ℕ, _+_, _-_, _*_, _%_}
 use mathlib.Core.Bool.{Bool, cond, _||_}
 use lib.Dec.{eqb}
 use Rattle.registers.specs.declared.Drawing.{Drawing}
@@ -14,6 +14,9 @@ lineKind = 1
 abbrev pub characterKind : ℕ
 characterKind = 2
 
+abbrev pub arcKind : ℕ
+arcKind = 4
+
 abbrev pub rectangleKind : ℕ
 rectangleKind = 8
 
@@ -22,6 +25,11 @@ unfoldable pub dotsOf : Drawing → ℕ
 dotsOf f =
     cond (eqb (f .kind) plainKind || eqb (f .kind) lineKind) (f .dc + 1)
     (cond (eqb (f .kind) rectangleKind) (f .d + f .d2 + f .d + f .d2) 0)
+
+-- 02, M-100, "FIGD with the A bit alone draws an arc: for i = 0 to DC, dots with i below DM are passed over without a cycle": how many
+-- are left
+unfoldable pub arcCyclesOf : Drawing → ℕ
+arcCyclesOf f = cond (eqb (f .kind) arcKind) (f .dc + 1 - f .dm) 0
 
 -- "factor g (ZOOM's low nibble + 1)"
 unfoldable pub factorOf : ℕ → ℕ

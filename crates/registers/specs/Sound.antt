@@ -10,14 +10,15 @@ use Rattle.dots.specs.Step.{addresses}
 use Rattle.registers.specs.declared.Mode.{Mode}
 use Rattle.registers.specs.declared.Mode.the-variants.{Write, Read}
 use Rattle.registers.specs.declared.Work.{Work}
-use Rattle.registers.specs.declared.Work.the-variants.{Idle, Figure, Character, Reading}
+use Rattle.registers.specs.declared.Work.the-variants.{Idle, Figure, Arc, Character, Reading}
+use Rattle.registers.specs.declared.Running.{Running}
 use Rattle.registers.specs.declared.Drawing.{Drawing}
 use Rattle.registers.specs.declared.Pen.{Pen}
 use Rattle.registers.specs.declared.Buffer.{Buffer}
 use Rattle.registers.specs.declared.Progress.{Progress}
 use Rattle.registers.specs.declared.Registers.{Registers}
 use Rattle.registers.specs.Width.{kinds, directions, fourteenBits, places, commandMark, entryEnd, parameters}
-use Rattle.registers.specs.Size.{dotsOf, rowsOf, columnsOf}
+use Rattle.registers.specs.Size.{dotsOf, arcCyclesOf, rowsOf, columnsOf}
 
 -- every number of the list is below n
 unfoldable pub allBelow : ℕ → List ℕ → Bool
@@ -52,10 +53,15 @@ abbrev pub bufferB : Mode → Buffer → Bool
 bufferB m b =
     leb (b .count) places && allBelow entryEnd (take places (b .entries)) && allBelow (markB m) (take (b .count) (b .entries))
 
+-- the running D, D1 and D2 of an arc
+abbrev pub runningB : Running → Bool
+runningB a = ltb (a .d) fourteenBits && ltb (a .d1) fourteenBits && ltb (a .d2) fourteenBits
+
 -- "the place reached inside its figure or read"; the running D and the row's start within their widths
 abbrev pub placeB : Drawing → ℕ → Work → Bool
 placeB f zoom Idle = true
 placeB f zoom (Figure k d) = ltb k (dotsOf f) && ltb d fourteenBits
+placeB f zoom (Arc k a) = ltb k (arcCyclesOf f) && runningB a
 placeB f zoom (Character row column start) = ltb row (rowsOf f zoom) && ltb column (columnsOf f zoom) && cursorB start
 placeB f zoom (Reading item t) = ltb item (f .dc)
 
@@ -67,6 +73,7 @@ writeB Read = false
 abbrev pub workB : Mode → Work → Bool
 workB m Idle = true
 workB m (Figure k d) = writeB m
+workB m (Arc k a) = writeB m
 workB m (Character row column start) = writeB m
 workB m (Reading item t) = not (writeB m)
 

@@ -5,13 +5,14 @@ use mathlib.Core.List.{List}
 use Prim.Native.Nat.{ℕ, _<_}
 use lib.ListN.{length, getD}
 use Rattle.registers.specs.declared.Work.{Work}
-use Rattle.registers.specs.declared.Work.the-variants.{Idle, Figure, Character, Reading}
+use Rattle.registers.specs.declared.Work.the-variants.{Idle, Figure, Arc, Character, Reading}
 use Rattle.registers.specs.declared.Registers.{Registers}
 
 -- the mask with which a character's row started; the next row starts from it
 abbrev pub StartFits : Work → Type 0
 StartFits Idle = Unit {0}
 StartFits (Figure k d) = Unit {0}
+StartFits (Arc k a) = Unit {0}
 StartFits (Character row column start) = start .mask < 65536
 StartFits (Reading item t) = Unit {0}
 

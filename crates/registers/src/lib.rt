@@ -5,13 +5,14 @@ ghost use mathlib.Core.Path.{_≡_};
 ghost use lib.ListN.{take};
 ghost use Rattle.registers.specs.Fresh.{freshSet};
 ghost use Rattle.registers.specs.Buffer.{pushed, oldest, popped};
-ghost use Rattle.registers.specs.Size.{factorOf, dotsOf, rowsOf, columnsOf};
+ghost use Rattle.registers.specs.Size.{factorOf, dotsOf, arcCyclesOf, rowsOf, columnsOf};
 ghost use Rattle.registers.specs.declared.Mode.the-variants.{Read};
 ghost use Rattle.registers.specs.Sound.{
   allBelow,
   cursorB,
   drawingB,
   bufferB,
+  runningB,
   placeB,
   writeB,
   workB,
@@ -26,6 +27,8 @@ const PLAIN_KIND: u8 = 0;
 pub const LINE_KIND: u8 = 1;
 
 const CHARACTER_KIND: u8 = 2;
+
+pub const ARC_KIND: u8 = 4;
 
 pub const RECTANGLE_KIND: u8 = 8;
 
@@ -79,6 +82,13 @@ pub enum Command {
     Unknown,
 }
 
+// The running copies of D, D1 and D2 of an arc.
+pub struct Running {
+    pub d: u16,
+    pub d1: u16,
+    pub d2: u16,
+}
+
 // What is in progress.
 pub enum Work {
     Idle,
@@ -86,6 +96,11 @@ pub enum Work {
     Figure {
         dot: u32,
         d: u16,
+    },
+    // FIGD's arc: how many of its cycles are done.
+    Arc {
+        cycle: u32,
+        running: Running,
     },
     // GCHRD's character: the row and the dot of it that are reached, and where the row started.
     Character {
@@ -211,6 +226,18 @@ pub fn dots_of(f: Drawing) -> u32
     0
 }
 
+// The cycles of the arc that FIGD draws.
+pub fn arc_cycles_of(f: Drawing) -> u32
+    ensures { λ n. ⌜ n ≡ arcCyclesOf f ⌝ }
+{
+    if f.kind == ARC_KIND {
+        if f.dm <= f.dc {
+            return f.dc as u32 + 1 - f.dm as u32;
+        }
+    }
+    0
+}
+
 // ZOOM's low nibble + 1.
 pub fn factor_of(zoom: u8) -> u32
     ensures { λ n. ⌜ n ≡ factorOf zoom ⌝ }
@@ -251,6 +278,12 @@ pub fn drawing_fits(f: Drawing) -> bool
         & (f.d2 < FOURTEEN_BITS)
         & (f.d1 < FOURTEEN_BITS)
         & (f.dm < FOURTEEN_BITS)
+}
+
+fn running_fits(a: Running) -> bool
+    ensures { λ t. ⌜ t ≡ runningB a ⌝ }
+{
+    (a.d < FOURTEEN_BITS) & (a.d1 < FOURTEEN_BITS) & (a.d2 < FOURTEEN_BITS)
 }
 
 // The first n of the entries are below a bound. No early way out, so that the entries are compared side by side.
@@ -298,6 +331,7 @@ pub fn place_fits(f: Drawing, zoom: u8, w: Work) -> bool
     match w {
         Work::Idle => true,
         Work::Figure { dot, d } => (dot < dots_of(f)) & (d < FOURTEEN_BITS),
+        Work::Arc { cycle, running } => (cycle < arc_cycles_of(f)) & running_fits(running),
         Work::Character { row, column, start } => {
             (row < rows_of(f, zoom)) & (column < columns_of(f, zoom)) & cursor_fits(start)
         }
@@ -312,6 +346,10 @@ pub fn work_fits(m: Mode, w: Work) -> bool
     match w {
         Work::Idle => true,
         Work::Figure { dot: _, d: _ } => is_write(m),
+        Work::Arc {
+            cycle: _,
+            running: _,
+        } => is_write(m),
         Work::Character {
             row: _,
             column: _,
