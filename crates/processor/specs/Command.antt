@@ -17,9 +17,10 @@ use Rattle.registers.specs.declared.Buffer.{Buffer}
 use Rattle.registers.specs.declared.Progress.{Progress}
 use Rattle.registers.specs.declared.Registers.{Registers}
 use Rattle.registers.specs.Fresh.{freshDrawing, emptyBuffer}
-use Rattle.registers.specs.Size.{dotsOf, rowsOf, columnsOf}
+use Rattle.registers.specs.Size.{arcKind, dotsOf, rowsOf, columnsOf}
 use Rattle.registers.specs.Put.{putDrawing, putOp, putVideo, putPen, putMode, putBuffer, putProgress, putWork, putDisplay, putVsync}
 use Rattle.commands.specs.Decode.{within, commandOf}
+use Rattle.arcs.specs.Unit.{arcBegun}
 
 -- where a command's first parameter goes: "PRAM 70 + address", all others from 0 on
 abbrev pub firstOf : ℕ → ℕ
@@ -62,6 +63,10 @@ penGiven r = turned (putPen r (record { address = r .pen .address; set = false }
 unfoldable pub figureBegun : Registers → Registers
 figureBegun r = cond (ltb 0 (dotsOf (r .drawing))) (putWork r (Figure 0 (r .drawing .d))) r
 
+-- 02, M-100: "FIGD with the A bit alone draws an arc"
+unfoldable pub figdTaken : Registers → Registers
+figdTaken r = cond (eqb (r .drawing .kind) arcKind) (arcBegun r) (figureBegun r)
+
 -- GCHRD likewise, from the place where EAD and mask stand
 unfoldable pub characterBegun : Registers → Registers
 characterBegun r =
@@ -87,7 +92,7 @@ commandBy Pitch b r = r
 commandBy Mask b r = r
 -- "Taking the FIGS command byte first gives DC, D, D2, D1 and DM their fresh values; type, DIR and GD stay."
 commandBy Figs b r = putDrawing r (freshDrawing (r .drawing))
-commandBy Figd b r = figureBegun r
+commandBy Figd b r = figdTaken r
 commandBy Gchrd b r = characterBegun r
 commandBy Curd b r = turned r (cursorBytes (r .cursor))
 commandBy Lprd b r = penGiven r

@@ -24,6 +24,7 @@ ghost use Rattle.processor.specs.Command.{
   penBytes,
   penGiven,
   figureBegun,
+  figdTaken,
   characterBegun,
   readBegun,
   commandTaken,
@@ -205,7 +206,7 @@ fn work_on(r: Registers, w: Work) -> Registers
     Registers { work: w, ..r }
 }
 
-// FIGD.
+// FIGD for a figure that is no arc.
 fn begin_figure(r: Registers) -> Registers
     ensures { λ q. ⌜ q ≡ figureBegun r ⌝ }
 {
@@ -220,6 +221,16 @@ fn begin_figure(r: Registers) -> Registers
         );
     }
     r
+}
+
+// FIGD.
+fn begin_figd(r: Registers) -> Registers
+    ensures { λ q. ⌜ q ≡ figdTaken r ⌝ }
+{
+    if r.drawing.kind == registers::ARC_KIND {
+        return arcs::begin_arc(r);
+    }
+    begin_figure(r)
 }
 
 // GCHRD.
@@ -270,7 +281,7 @@ pub fn command_taken(r: Registers, byte: u8) -> Registers
         Command::Vsync => master(n, byte % 2 == 1),
         Command::Start => start(n),
         Command::Figs => refresh(n),
-        Command::Figd => begin_figure(n),
+        Command::Figd => begin_figd(n),
         Command::Gchrd => begin_character(n),
         Command::Curd => turn(n, cursor_bytes(n.cursor)),
         Command::Lprd => pen_given(n),

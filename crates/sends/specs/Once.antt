@@ -5,7 +5,7 @@ use mathlib.Core.Bool.{Bool, true, false, not, _&&_}
 use lib.Dec.{eqb, ltb}
 use Rattle.registers.specs.declared.Mode.{Mode}
 use Rattle.registers.specs.declared.Work.{Work}
-use Rattle.registers.specs.declared.Work.the-variants.{Idle, Figure, Character, Reading}
+use Rattle.registers.specs.declared.Work.the-variants.{Idle, Figure, Arc, Character, Reading}
 use Rattle.registers.specs.Width.{commandMark, entryEnd}
 use Rattle.registers.specs.Sound.{writeB}
 
@@ -13,6 +13,7 @@ use Rattle.registers.specs.Sound.{writeB}
 abbrev pub idleB : Work → Bool
 idleB Idle = true
 idleB (Figure k d) = false
+idleB (Arc k a) = false
 idleB (Character row column start) = false
 idleB (Reading item t) = false
 

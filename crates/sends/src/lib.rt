@@ -69,6 +69,10 @@ fn idle(w: Work) -> bool
     match w {
         Work::Idle => true,
         Work::Figure { dot: _, d: _ } => false,
+        Work::Arc {
+            cycle: _,
+            running: _,
+        } => false,
         Work::Character {
             row: _,
             column: _,

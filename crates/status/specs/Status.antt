@@ -5,7 +5,7 @@ use lib.Dec.{eqb, ltb}
 use Rattle.registers.specs.declared.Mode.{Mode}
 use Rattle.registers.specs.declared.Mode.the-variants.{Write, Read}
 use Rattle.registers.specs.declared.Work.{Work}
-use Rattle.registers.specs.declared.Work.the-variants.{Idle, Figure, Character, Reading}
+use Rattle.registers.specs.declared.Work.the-variants.{Idle, Figure, Arc, Character, Reading}
 use Rattle.registers.specs.declared.Registers.{Registers}
 use Rattle.registers.specs.Width.{places}
 
@@ -16,6 +16,7 @@ oneIf false = 0
 abbrev pub figureInProgressB : Work → Bool
 figureInProgressB Idle = false
 figureInProgressB (Figure k d) = true
+figureInProgressB (Arc k a) = true
 figureInProgressB (Character row column start) = true
 figureInProgressB (Reading i t) = false
 

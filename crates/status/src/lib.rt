@@ -16,6 +16,10 @@ fn figure_in_progress(w: Work) -> bool
     match w {
         Work::Idle => false,
         Work::Figure { dot: _, d: _ } => true,
+        Work::Arc {
+            cycle: _,
+            running: _,
+        } => true,
         Work::Character {
             row: _,
             column: _,
