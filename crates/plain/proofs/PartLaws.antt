@@ -11,7 +11,7 @@ use Rattle.registers.specs.declared.Video.{Video}
 use Rattle.registers.specs.declared.Pen.{Pen}
 use Rattle.registers.specs.declared.Progress.{Progress}
 use Rattle.registers.specs.declared.Work.{Work}
-use Rattle.registers.specs.declared.Work.the-variants.{Idle, Figure, Character, Reading}
+use Rattle.registers.specs.declared.Work.the-variants.{Idle, Figure, Arc, Character, Reading}
 use Rattle.registers.proofs.BoolLaws.{and-left, and-right, false-true}
 use Rattle.plain.specs.declared.PlainDrawing.{PlainDrawing}
 use Rattle.plain.specs.declared.PlainVideo.{PlainVideo}
@@ -20,7 +20,7 @@ use Rattle.plain.specs.declared.PlainProgress.{PlainProgress}
 use Rattle.plain.specs.declared.PlainWork.{PlainWork}
 use Rattle.plain.specs.Parts.{drawingOf, drawingPlain, videoOf, videoPlain, penOf, penPlain, progressOf, progressPlain, workOf}
 use Rattle.plain.specs.Parts.{workPlain}
-use Rattle.plain.specs.Form.{commandFormB, noFigureB, noCharacterB, noReadingB, workFormB}
+use Rattle.plain.specs.Form.{commandFormB, noFigureB, noArcB, noCharacterB, noReadingB, workFormB}
 use Rattle.plain.proofs.NumberLaws.{bit-back, bit-there, transfer-back, transfer-fits, transfer-there, command-back, command-there}
 use Rattle.plain.proofs.NumberLaws.{transfer-beside}
 
@@ -42,6 +42,7 @@ progress-back p = λ i. record { command = command-back (p .command) i; next = p
 pub work-back : (w : Work) → workOf (workPlain w) ≡ w
 work-back Idle = refl
 work-back (Figure n d) = refl
+work-back (Arc n a) = refl
 work-back (Character r c s) = refl
 work-back (Reading k t) = λ i. Reading k (transfer-back t i)
 
@@ -49,6 +50,7 @@ work-back (Reading k t) = λ i. Reading k (transfer-back t i)
 pub work-fits : (w : Work) → workFormB (workPlain w) ≡ true
 work-fits Idle = refl
 work-fits (Figure n d) = refl
+work-fits (Arc n a) = refl
 work-fits (Character r c s) = refl
 work-fits (Reading k t) = transfer-fits t
 
@@ -80,6 +82,12 @@ no-figure w e =
     let b = eqb (w .d) 0 in
     (eqb-true (w .dot) 0 (and-left a b e), eqb-true (w .d) 0 (and-right a b e))
 
+no-arc : (w : PlainWork) → noArcB w ≡ true → (w .d1 ≡ 0) × (w .d2 ≡ 0)
+no-arc w e =
+    let a = eqb (w .d1) 0 in
+    let b = eqb (w .d2) 0 in
+    (eqb-true (w .d1) 0 (and-left a b e), eqb-true (w .d2) 0 (and-right a b e))
+
 no-character : (w : PlainWork) → noCharacterB w ≡ true → ((w .row ≡ 0) × (w .column ≡ 0)) × ((w .start .ead ≡ 0) × (w .start .mask ≡ 0))
 no-character w e =
     let a = eqb (w .row) 0 in
@@ -100,31 +108,48 @@ no-reading w e =
 
 abbrev of-kind : ℕ → PlainWork → PlainWork
 of-kind k w =
-    record { kind = k; transfer = w .transfer; d = w .d; item = w .item; dot = w .dot; row = w .row; column = w .column; start = w .start }
+    record {
+      kind = k;
+      transfer = w .transfer;
+      d = w .d;
+      d1 = w .d1;
+      d2 = w .d2;
+      item = w .item;
+      dot = w .dot;
+      row = w .row;
+      column = w .column;
+      start = w .start;
+    }
 
--- there is no fifth kind
-no-kind : (k : ℕ) (w : PlainWork) → 4 ≤ k → workFormB (of-kind k w) ≡ false
+-- there is no sixth kind
+no-kind : (k : ℕ) (w : PlainWork) → 5 ≤ k → workFormB (of-kind k w) ≡ false
 no-kind k w h =
     let a = ne-eqb k 0 (λ (z : k ≡ 0). absurd (omega arith)) in
     let b = ne-eqb k 1 (λ (z : k ≡ 1). absurd (omega arith)) in
     let c = ne-eqb k 2 (λ (z : k ≡ 2). absurd (omega arith)) in
     let d = ne-eqb k 3 (λ (z : k ≡ 3). absurd (omega arith)) in
-    rw (a, b, c, d)
+    let e = ne-eqb k 4 (λ (z : k ≡ 4). absurd (omega arith)) in
+    rw (a, b, c, d, e)
 
 work-of-kind : (k : ℕ) (w : PlainWork) → workFormB (of-kind k w) ≡ true → workPlain (workOf (of-kind k w)) ≡ of-kind k w
 work-of-kind zero w e =
     let a = noFigureB w in
+    let o = noArcB w in
     let b = noCharacterB w in
     let c = noReadingB w in
-    let f = and-left (a && b) c e in
-    let x = no-figure w (and-left a b f) in
-    let y = no-character w (and-right a b f) in
-    let z = no-reading w (and-right (a && b) c e) in
+    let f = and-left (a && o && b) c e in
+    let g = and-left (a && o) b f in
+    let x = no-figure w (and-left a o g) in
+    let v = no-arc w (and-right a o g) in
+    let y = no-character w (and-right (a && o) b f) in
+    let z = no-reading w (and-right (a && o && b) c e) in
     λ i.
     record {
       kind = 0;
       transfer = sym (z .1) i;
       d = sym (x .1) i;
+      d1 = sym (v .0) i;
+      d2 = sym (v .1) i;
       item = sym (z .0) i;
       dot = sym (x .0) i;
       row = sym (y .0 .0) i;
@@ -132,15 +157,20 @@ work-of-kind zero w e =
       start = record { ead = sym (y .1 .0) i; mask = sym (y .1 .1) i };
     }
 work-of-kind (suc zero) w e =
+    let o = noArcB w in
     let b = noCharacterB w in
     let c = noReadingB w in
-    let y = no-character w (and-left b c e) in
-    let z = no-reading w (and-right b c e) in
+    let f = and-left (o && b) c e in
+    let v = no-arc w (and-left o b f) in
+    let y = no-character w (and-right o b f) in
+    let z = no-reading w (and-right (o && b) c e) in
     λ i.
     record {
       kind = 1;
       transfer = sym (z .1) i;
       d = w .d;
+      d1 = sym (v .0) i;
+      d2 = sym (v .1) i;
       item = sym (z .0) i;
       dot = w .dot;
       row = sym (y .0 .0) i;
@@ -149,14 +179,19 @@ work-of-kind (suc zero) w e =
     }
 work-of-kind (suc (suc zero)) w e =
     let a = noFigureB w in
+    let o = noArcB w in
     let c = noReadingB w in
-    let x = no-figure w (and-left a c e) in
-    let z = no-reading w (and-right a c e) in
+    let f = and-left (a && o) c e in
+    let x = no-figure w (and-left a o f) in
+    let v = no-arc w (and-right a o f) in
+    let z = no-reading w (and-right (a && o) c e) in
     λ i.
     record {
       kind = 2;
       transfer = sym (z .1) i;
       d = sym (x .1) i;
+      d1 = sym (v .0) i;
+      d2 = sym (v .1) i;
       item = sym (z .0) i;
       dot = sym (x .0) i;
       row = w .row;
@@ -165,24 +200,48 @@ work-of-kind (suc (suc zero)) w e =
     }
 work-of-kind (suc (suc (suc zero))) w e =
     let a = noFigureB w in
+    let o = noArcB w in
     let b = noCharacterB w in
     let c = ltb (w .transfer) 3 in
-    let f = and-left (a && b) c e in
-    let x = no-figure w (and-left a b f) in
-    let y = no-character w (and-right a b f) in
-    let t = transfer-there (w .transfer) (and-right (a && b) c e) in
+    let f = and-left (a && o && b) c e in
+    let g = and-left (a && o) b f in
+    let x = no-figure w (and-left a o g) in
+    let v = no-arc w (and-right a o g) in
+    let y = no-character w (and-right (a && o) b f) in
+    let t = transfer-there (w .transfer) (and-right (a && o && b) c e) in
     λ i.
     record {
       kind = 3;
       transfer = t i;
       d = sym (x .1) i;
+      d1 = sym (v .0) i;
+      d2 = sym (v .1) i;
       item = w .item;
       dot = sym (x .0) i;
       row = sym (y .0 .0) i;
       column = sym (y .0 .1) i;
       start = record { ead = sym (y .1 .0) i; mask = sym (y .1 .1) i };
     }
-work-of-kind (suc (suc (suc (suc k)))) w e = absurd (false-true (sym (no-kind (suc (suc (suc (suc k)))) w (omega arith)) ∙ e))
+work-of-kind (suc (suc (suc (suc zero)))) w e =
+    let b = noCharacterB w in
+    let c = noReadingB w in
+    let y = no-character w (and-left b c e) in
+    let z = no-reading w (and-right b c e) in
+    λ i.
+    record {
+      kind = 4;
+      transfer = sym (z .1) i;
+      d = w .d;
+      d1 = w .d1;
+      d2 = w .d2;
+      item = sym (z .0) i;
+      dot = w .dot;
+      row = sym (y .0 .0) i;
+      column = sym (y .0 .1) i;
+      start = record { ead = sym (y .1 .0) i; mask = sym (y .1 .1) i };
+    }
+work-of-kind (suc (suc (suc (suc (suc k))))) w e =
+    absurd (false-true (sym (no-kind (suc (suc (suc (suc (suc k))))) w (omega arith)) ∙ e))
 
 pub work-there : (w : PlainWork) → workFormB w ≡ true → workPlain (workOf w) ≡ w
 work-there w e = work-of-kind (w .kind) w e

@@ -14,19 +14,24 @@ commandFormB n x = cond (eqb n wdatNumber || eqb n rdatNumber) (ltb x transfers)
 abbrev pub noFigureB : PlainWork → Bool
 noFigureB w = eqb (w .dot) 0 && eqb (w .d) 0
 
+abbrev pub noArcB : PlainWork → Bool
+noArcB w = eqb (w .d1) 0 && eqb (w .d2) 0
+
 abbrev pub noCharacterB : PlainWork → Bool
 noCharacterB w = eqb (w .row) 0 && eqb (w .column) 0 && eqb (w .start .ead) 0 && eqb (w .start .mask) 0
 
 abbrev pub noReadingB : PlainWork → Bool
 noReadingB w = eqb (w .item) 0 && eqb (w .transfer) 0
 
+-- an arc has a figure's fields, and two more
 abbrev pub workFormB : PlainWork → Bool
 workFormB w =
-    cond (eqb (w .kind) 0) (noFigureB w && noCharacterB w && noReadingB w)
-    (cond (eqb (w .kind) 1) (noCharacterB w && noReadingB w)
-    (cond (eqb (w .kind) 2) (noFigureB w && noReadingB w)
-    (cond (eqb (w .kind) 3) (noFigureB w && noCharacterB w && ltb (w .transfer) transfers)
-    false)))
+    cond (eqb (w .kind) 0) (noFigureB w && noArcB w && noCharacterB w && noReadingB w)
+    (cond (eqb (w .kind) 1) (noArcB w && noCharacterB w && noReadingB w)
+    (cond (eqb (w .kind) 2) (noFigureB w && noArcB w && noReadingB w)
+    (cond (eqb (w .kind) 3) (noFigureB w && noArcB w && noCharacterB w && ltb (w .transfer) transfers)
+    (cond (eqb (w .kind) 4) (noCharacterB w && noReadingB w)
+    false))))
 
 abbrev pub bitsB : PlainRegisters → Bool
 bitsB p = ltb (p .drawing .gd) 2 && ltb (p .video .display) 2 && ltb (p .video .vsync) 2 && ltb (p .pen .set) 2

@@ -8,8 +8,9 @@ use Rattle.registers.specs.declared.Video.{Video}
 use Rattle.registers.specs.declared.Pen.{Pen}
 use Rattle.registers.specs.declared.Buffer.{Buffer}
 use Rattle.registers.specs.declared.Progress.{Progress}
+use Rattle.registers.specs.declared.Running.{Running}
 use Rattle.registers.specs.declared.Work.{Work}
-use Rattle.registers.specs.declared.Work.the-variants.{Idle, Figure, Character, Reading}
+use Rattle.registers.specs.declared.Work.the-variants.{Idle, Figure, Arc, Character, Reading}
 use Rattle.plain.specs.declared.PlainCursor.{PlainCursor}
 use Rattle.plain.specs.declared.PlainDrawing.{PlainDrawing}
 use Rattle.plain.specs.declared.PlainVideo.{PlainVideo}
@@ -60,22 +61,38 @@ abbrev pub progressPlain : Progress → PlainProgress
 progressPlain p =
     record { command = commandNumber (p .command); transfer = commandTransfer (p .command); next = p .next; low = p .low }
 
--- what is in progress: 0 nothing; 1 a figure; 2 a character; 3 a read
+-- what is in progress: 0 nothing; 1 a figure; 2 a character; 3 a read; 4 an arc
 abbrev pub workOf : PlainWork → Work
 workOf w =
     cond (eqb (w .kind) 0) Idle
     (cond (eqb (w .kind) 1) (Figure (w .dot) (w .d))
     (cond (eqb (w .kind) 2) (Character (w .row) (w .column) (cursorOf (w .start)))
-    (Reading (w .item) (transferOf (w .transfer)))))
+    (cond (eqb (w .kind) 3) (Reading (w .item) (transferOf (w .transfer)))
+    (Arc (w .dot) (record { d = w .d; d1 = w .d1; d2 = w .d2 })))))
 
--- .. with every field that its kind has no use for 0
-abbrev pub noCharacter : ℕ → ℕ → ℕ → ℕ → ℕ → PlainWork
-noCharacter k t d i n =
-    record { kind = k; transfer = t; d = d; item = i; dot = n; row = 0; column = 0; start = record { ead = 0; mask = 0 } }
+-- .. with every field that its kind has no use for 0: a figure runs D alone
+abbrev pub dOnly : ℕ → Running
+dOnly d = record { d = d; d1 = 0; d2 = 0 }
+
+abbrev pub noCharacter : ℕ → ℕ → Running → ℕ → ℕ → PlainWork
+noCharacter k t a i n =
+    record {
+      kind = k;
+      transfer = t;
+      d = a .d;
+      d1 = a .d1;
+      d2 = a .d2;
+      item = i;
+      dot = n;
+      row = 0;
+      column = 0;
+      start = record { ead = 0; mask = 0 };
+    }
 
 abbrev pub workPlain : Work → PlainWork
-workPlain Idle = noCharacter 0 0 0 0 0
-workPlain (Figure n d) = noCharacter 1 0 d 0 n
+workPlain Idle = noCharacter 0 0 (dOnly 0) 0 0
+workPlain (Figure n d) = noCharacter 1 0 (dOnly d) 0 n
+workPlain (Arc n a) = noCharacter 4 0 a 0 n
 workPlain (Character r c s) =
-    record { kind = 2; transfer = 0; d = 0; item = 0; dot = 0; row = r; column = c; start = cursorPlain s }
-workPlain (Reading i t) = noCharacter 3 (transferNumber t) 0 i 0
+    record { kind = 2; transfer = 0; d = 0; d1 = 0; d2 = 0; item = 0; dot = 0; row = r; column = c; start = cursorPlain s }
+workPlain (Reading i t) = noCharacter 3 (transferNumber t) (dOnly 0) i 0

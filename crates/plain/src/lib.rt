@@ -52,12 +52,15 @@ pub struct PlainProgress {
     pub low: u8,
 }
 
-// What is in progress: 0 nothing; 1 a figure (dot, d); 2 a character (row, column, start); 3 a read (item, transfer).
+// What is in progress: 0 nothing; 1 a figure (dot, d); 2 a character (row, column, start); 3 a read (item, transfer); 4 an arc (its cycles
+// done in dot; d, d1, d2).
 #[repr(C)]
 pub struct PlainWork {
     pub kind: u8,
     pub transfer: u8,
     pub d: u16,
+    pub d1: u16,
+    pub d2: u16,
     pub item: u16,
     pub dot: u32,
     pub row: u32,

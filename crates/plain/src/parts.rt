@@ -12,6 +12,7 @@ use registers::Buffer;
 use registers::Drawing;
 use registers::Pen;
 use registers::Progress;
+use registers::Running;
 use registers::Video;
 use registers::Work;
 ghost use mathlib.Core.Path.{_≡_};
@@ -28,6 +29,7 @@ ghost use Rattle.plain.specs.Parts.{
   bufferPlain,
   progressOf,
   progressPlain,
+  dOnly,
   noCharacter,
   workOf,
   workPlain,
@@ -182,21 +184,31 @@ pub fn work_of(w: PlainWork) -> Work
             column: w.column,
             start: cursor_of(w.start),
         },
-        _ => Work::Reading {
+        3 => Work::Reading {
             item: w.item,
             transfer: numbers::transfer_of(w.transfer),
+        },
+        _ => Work::Arc {
+            cycle: w.dot,
+            running: Running {
+                d: w.d,
+                d1: w.d1,
+                d2: w.d2,
+            },
         },
     }
 }
 
 // A work that is no character.
-fn plain_work(kind: u8, transfer: u8, d: u16, item: u16, dot: u32) -> PlainWork
-    ensures { λ q. ⌜ q ≡ noCharacter kind transfer d item dot ⌝ }
+fn plain_work(kind: u8, transfer: u8, a: Running, item: u16, dot: u32) -> PlainWork
+    ensures { λ q. ⌜ q ≡ noCharacter kind transfer a item dot ⌝ }
 {
     PlainWork {
         kind: kind,
         transfer: transfer,
-        d: d,
+        d: a.d,
+        d1: a.d1,
+        d2: a.d2,
         item: item,
         dot: dot,
         row: 0,
@@ -205,16 +217,26 @@ fn plain_work(kind: u8, transfer: u8, d: u16, item: u16, dot: u32) -> PlainWork
     }
 }
 
+// D alone, which a figure runs; 0 where none does.
+fn d_only(d: u16) -> Running
+    ensures { λ q. ⌜ q ≡ dOnly d ⌝ }
+{
+    Running { d: d, d1: 0, d2: 0 }
+}
+
 pub fn work_plain(w: Work) -> PlainWork
     ensures { λ q. ⌜ q ≡ workPlain w ⌝ }
 {
     match w {
-        Work::Idle => plain_work(0, 0, 0, 0, 0),
-        Work::Figure { dot, d } => plain_work(1, 0, d, 0, dot),
+        Work::Idle => plain_work(0, 0, d_only(0), 0, 0),
+        Work::Figure { dot, d } => plain_work(1, 0, d_only(d), 0, dot),
+        Work::Arc { cycle, running } => plain_work(4, 0, running, 0, cycle),
         Work::Character { row, column, start } => PlainWork {
             kind: 2,
             transfer: 0,
             d: 0,
+            d1: 0,
+            d2: 0,
             item: 0,
             dot: 0,
             row: row,
@@ -222,7 +244,7 @@ pub fn work_plain(w: Work) -> PlainWork
             start: cursor_plain(start),
         },
         Work::Reading { item, transfer } => {
-            plain_work(3, numbers::transfer_number(transfer), 0, item, 0)
+            plain_work(3, numbers::transfer_number(transfer), d_only(0), item, 0)
         }
     }
 }
