@@ -8,7 +8,7 @@ use registers::Mode;
 ghost use mathlib.Core.Path.{_≡_};
 ghost use mathlib.Core.Bool.{_&&_};
 ghost use Rattle.registers.specs.Sound.{placeB, workB, soundB};
-ghost use Rattle.plain.specs.Form.{commandFormB, noFigureB, noCharacterB, noReadingB, workFormB, bitsB, plainFormB};
+ghost use Rattle.plain.specs.Form.{commandFormB, noFigureB, noArcB, noCharacterB, noReadingB, workFormB, bitsB, plainFormB};
 ghost use Rattle.plain.specs.Parts.{workOf};
 ghost use Rattle.plain.specs.Mirror.{fromPlain};
 ghost use Rattle.forms.specs.Fit.{numbersB};
@@ -22,11 +22,17 @@ fn command_formed(n: u8, transfer: u8) -> bool
     ((n == numbers::WDAT) | (n == numbers::RDAT)) & (transfer < numbers::TRANSFERS)
 }
 
-// The fields of a figure, of a character and of a read are 0.
+// The fields of a figure, those that an arc has beside them, of a character and of a read are 0.
 fn no_figure(w: PlainWork) -> bool
     ensures { λ t. ⌜ t ≡ noFigureB w ⌝ }
 {
     (w.dot | w.d as u32) == 0
+}
+
+fn no_arc(w: PlainWork) -> bool
+    ensures { λ t. ⌜ t ≡ noArcB w ⌝ }
+{
+    (w.d1 | w.d2) == 0
 }
 
 fn no_character(w: PlainWork) -> bool
@@ -46,10 +52,11 @@ fn work_formed(w: PlainWork) -> bool
 {
     let kind = w.kind;
     match kind {
-        0 => no_figure(w) & no_character(w) & no_reading(w),
-        1 => no_character(w) & no_reading(w),
-        2 => no_figure(w) & no_reading(w),
-        3 => no_figure(w) & no_character(w) & (w.transfer < numbers::TRANSFERS),
+        0 => no_figure(w) & no_arc(w) & no_character(w) & no_reading(w),
+        1 => no_arc(w) & no_character(w) & no_reading(w),
+        2 => no_figure(w) & no_arc(w) & no_reading(w),
+        3 => no_figure(w) & no_arc(w) & no_character(w) & (w.transfer < numbers::TRANSFERS),
+        4 => no_character(w) & no_reading(w),
         _ => false,
     }
 }
