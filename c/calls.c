@@ -48,9 +48,9 @@ static void add_all(const char *entries, size_t n) { // a command, then its para
 static void add_some(void) {
     static const uint8_t code[] = {0x00, 0x6F, 0x4B, 0x6B, 0x46, 0x49, 0x49, 0x74, 0x78, 0x47, 0x4A, 0x4C, 0x4C, 0x4C, 0x4C, 0x6C, 0x6C,
                                    0x6C, 0x68, 0x68, 0xE0, 0xC0, 0x20, 0x21, 0x22, 0x23, 0x31, 0x3A, 0xA0, 0xB0, 0xB8, 0x24, 0x99};
-    static const uint8_t kind[] = {0x00, 0x08, 0x08, 0x08, 0x10, 0x10, 0x40, 0x40, 0x50, 0x80};
+    static const uint8_t kind[] = {0x00, 0x08, 0x08, 0x08, 0x10, 0x10, 0x20, 0x20, 0x20, 0x30, 0x40, 0x40, 0x50, 0x80};
     uint8_t c = code[random_below(sizeof code)];
-    unsigned n = random_below(c == 0x4C ? 12 : c == 0x6C || c == 0x68 ? 1 : 6);
+    unsigned n = random_below(c == 0x4C ? 16 : c == 0x6C || c == 0x68 ? 1 : 6);
     add(256u + c);
     if (c == 0xE0 || c == 0xC0 || (c & 0xE0) == 0xA0) return; // in read mode a parameter is refused
     for (unsigned i = 0; i < n; i++)
@@ -176,9 +176,12 @@ static void wrong_sets(void) {
     WRONG(drawing.d2 = 16384); WRONG(drawing.d1 = 16384); WRONG(drawing.dm = 16384); WRONG(pen.address = 262144); WRONG(buffer.count = 17);
     WRONG(progress.next = 17); WRONG(buffer.entries[15] = 512); WRONG(buffer.entries[0] = 512); WRONG(drawing.gd = 2);
     WRONG(video.display = 2); WRONG(video.vsync = 2); WRONG(pen.set = 2); WRONG(op = 4); WRONG(mode = 2); WRONG(progress.command = 18);
-    WRONG(progress.transfer = 1); WRONG(work.kind = 4); WRONG(work.transfer = 1); WRONG(work.d = 1); WRONG(work.item = 1);
-    WRONG(work.dot = 1); WRONG(work.row = 1); WRONG(work.column = 1); WRONG(work.start.ead = 1); WRONG(work.start.mask = 1);
-    WRONG(work.kind = KRANICHSEIL_READING); WRONG(work.kind = KRANICHSEIL_FIGURE; r.work.dot = 1);
+    WRONG(progress.transfer = 1); WRONG(work.kind = 5); WRONG(work.transfer = 1); WRONG(work.d = 1); WRONG(work.d1 = 1); WRONG(work.d2 = 1);
+    WRONG(work.item = 1); WRONG(work.dot = 1); WRONG(work.row = 1); WRONG(work.column = 1); WRONG(work.start.ead = 1);
+    WRONG(work.start.mask = 1); WRONG(work.kind = KRANICHSEIL_READING); WRONG(work.kind = KRANICHSEIL_FIGURE; r.work.dot = 1);
+    WRONG(work.kind = KRANICHSEIL_ARC); WRONG(drawing.kind = 4; r.work.kind = KRANICHSEIL_ARC); // an arc of no cycles: DM is past DC
+    WRONG(drawing.kind = 4; r.drawing.dm = 0; r.work.kind = KRANICHSEIL_ARC; r.work.dot = 1);
+    WRONG(drawing.kind = 4; r.drawing.dm = 0; r.work.kind = KRANICHSEIL_ARC; r.work.d2 = 16384);
     WRONG(mode = KRANICHSEIL_READ; r.buffer.count = 1; r.buffer.entries[0] = 256);
 }
 

@@ -18,8 +18,9 @@ static int same(const struct kranichseil_registers *a, const struct kranichseil_
     return FIELD(cursor.ead) && FIELD(cursor.mask) && FIELD(pitch) && FIELD(drawing.kind) && FIELD(drawing.dir) && FIELD(drawing.gd)
         && FIELD(drawing.dc) && FIELD(drawing.d) && FIELD(drawing.d2) && FIELD(drawing.d1) && FIELD(drawing.dm) && FIELD(op)
         && FIELD(ram) && FIELD(video) && FIELD(pen.address) && FIELD(pen.set) && FIELD(mode) && FIELD(buffer.entries)
-        && FIELD(buffer.count) && FIELD(progress) && FIELD(work.kind) && FIELD(work.transfer) && FIELD(work.d) && FIELD(work.item)
-        && FIELD(work.dot) && FIELD(work.row) && FIELD(work.column) && FIELD(work.start.ead) && FIELD(work.start.mask);
+        && FIELD(buffer.count) && FIELD(progress) && FIELD(work.kind) && FIELD(work.transfer) && FIELD(work.d) && FIELD(work.d1)
+        && FIELD(work.d2) && FIELD(work.item) && FIELD(work.dot) && FIELD(work.row) && FIELD(work.column) && FIELD(work.start.ead)
+        && FIELD(work.start.mask);
 }
 
 static void section(const char *name, void (*cases)(void)) {

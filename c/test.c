@@ -1,5 +1,6 @@
-// Drives the archive from C: the layout of the header, document 01's worked cases, and every number of refusal. Expected values are
-// 01's, written by hand. Ends with status 0 and `0 failed`, or says which lines failed. tools/ctest builds and runs it.
+// Drives the archive from C: the layout of the header, document 01's worked cases, an arc (02, M-100), and every number of refusal.
+// Expected values are 01's and 02's, written by hand. Ends with status 0 and `0 failed`, or says which lines failed. tools/ctest builds
+// and runs it.
 #include "check.h"
 
 // ---- the header's layout
@@ -12,13 +13,13 @@ SIZE(video, 14); AT(video, zoom, 0); AT(video, display, 1); AT(video, vsync, 2);
 SIZE(pen, 8); AT(pen, address, 0); AT(pen, set, 4);
 SIZE(buffer, 34); AT(buffer, entries, 0); AT(buffer, count, 32);
 SIZE(progress, 4); AT(progress, command, 0); AT(progress, transfer, 1); AT(progress, next, 2); AT(progress, low, 3);
-SIZE(work, 28); AT(work, kind, 0); AT(work, transfer, 1); AT(work, d, 2); AT(work, item, 4); AT(work, dot, 8); AT(work, row, 12);
-AT(work, column, 16); AT(work, start, 20);
-SIZE(registers, 132); AT(registers, cursor, 0); AT(registers, pitch, 8); AT(registers, drawing, 10); AT(registers, op, 24);
+SIZE(work, 32); AT(work, kind, 0); AT(work, transfer, 1); AT(work, d, 2); AT(work, d1, 4); AT(work, d2, 6); AT(work, item, 8);
+AT(work, dot, 12); AT(work, row, 16); AT(work, column, 20); AT(work, start, 24);
+SIZE(registers, 136); AT(registers, cursor, 0); AT(registers, pitch, 8); AT(registers, drawing, 10); AT(registers, op, 24);
 AT(registers, ram, 25); AT(registers, video, 41); AT(registers, pen, 56); AT(registers, mode, 64); AT(registers, buffer, 66);
 AT(registers, progress, 100); AT(registers, work, 104);
-SIZE(answer, 136); AT(answer, number, 0); AT(answer, value, 1); AT(answer, regs, 4);
-SIZE(ran, 144); AT(ran, number, 0); AT(ran, count, 4); AT(ran, why, 8); AT(ran, regs, 12);
+SIZE(answer, 140); AT(answer, number, 0); AT(answer, value, 1); AT(answer, regs, 4);
+SIZE(ran, 148); AT(ran, number, 0); AT(ran, count, 4); AT(ran, why, 8); AT(ran, regs, 12);
 SIZE(report, 12); AT(report, number, 0); AT(report, count, 4); AT(report, why, 8);
 SIZE(reply, 2); AT(reply, number, 0); AT(reply, value, 1);
 SIZE(tally, 24); AT(tally, number, 0); AT(tally, taken, 8); AT(tally, units, 16);
@@ -211,7 +212,7 @@ static void refusals(void) {
     UNSOUND(pen.address = 262144); UNSOUND(buffer.count = 17); UNSOUND(progress.next = 17); UNSOUND(buffer.entries[0] = 512);
     // no register set: a bit that is 2, an enum's number out of range, an unused field that is not 0
     UNSOUND(drawing.gd = 2); UNSOUND(video.display = 2); UNSOUND(video.vsync = 255); UNSOUND(pen.set = 2);
-    UNSOUND(op = 4); UNSOUND(mode = 2); UNSOUND(progress.command = 18); UNSOUND(progress.transfer = 1); UNSOUND(work.kind = 4);
+    UNSOUND(op = 4); UNSOUND(mode = 2); UNSOUND(progress.command = 18); UNSOUND(progress.transfer = 1); UNSOUND(work.kind = 5);
     UNSOUND(work.transfer = 1); UNSOUND(work.d = 1); UNSOUND(work.item = 1); UNSOUND(work.dot = 1); UNSOUND(work.row = 1);
     UNSOUND(work.column = 1); UNSOUND(work.start.ead = 1); UNSOUND(work.start.mask = 1);
     UNSOUND(progress.command = KRANICHSEIL_WDAT; given.progress.transfer = 3);
@@ -230,6 +231,65 @@ static void refusals(void) {
     IS(read_byte(), 1005); IS(kranichseil_pen(r, 262144).number, 6); IS(kranichseil_pen(r, 262143).number, 0);
     SEND(0xE0, ""); given = r; IS(parameter(1), 4); IS(same(&given, &r), 1);  // read mode
     IS(command(0x47), 0); IS(r.mode, KRANICHSEIL_WRITE); IS(r.buffer.count, 1);
+}
+
+// ---- an arc: up from the left end of the circle of radius 5 about (20, 10), dot 0 passed over: DIR 3, DC 3, D 4, D2 8, D1 -1, DM 1
+static void arc(const char *figs) {
+    start();
+    SEND(0x47, "\x28"); SEND(0x23, ""); SEND(0x49, "\x90\x01\xF0"); SEND(0x78, "\xFF\xFF"); send(0x4C, figs, 11);
+    IS(r.drawing.kind, 4); IS(command(0x6C), 0);
+}
+static const char five[] = "\x23\x03\x00\x04\x00\x08\x00\xFF\x3F\x01\x00";
+// what is in progress, all of it
+static void reached(unsigned dot, unsigned d, int d1, unsigned d2, unsigned ead, unsigned mask, int line) {
+    const struct kranichseil_work *w = &r.work;
+    is(w->kind, KRANICHSEIL_ARC, "kind", line); is(w->dot, dot, "dot", line); is(w->d, d, "d", line);
+    is(w->d1, (unsigned)d1 & 16383, "d1", line); is(w->d2, d2, "d2", line);
+    is(w->transfer | w->item | w->row | w->column | w->start.ead | w->start.mask, 0, "fields without use", line);
+    is(r.cursor.ead, ead, "ead", line); is(r.cursor.mask, mask, "mask", line); is(status(), 0x0C, "status", line);
+}
+#define REACHED(dot, d, d1, d2, ead, mask) reached(dot, d, d1, d2, ead, mask, __LINE__)
+static void ended(unsigned ead, unsigned mask, int line) {
+    struct kranichseil_registers idle = r;
+    memset(&idle.work, 0, sizeof idle.work);
+    is(same(&r, &idle), 1, "nothing in progress", line);
+    is(r.cursor.ead, ead, "ead", line); is(r.cursor.mask, mask, "mask", line); is(status(), 0x04, "status", line);
+}
+#define ENDED(ead, mask) ended(ead, mask, __LINE__)
+#define NO_ARC() do { UNSOUND(work.d1 = 1); UNSOUND(work.d2 = 1); } while (0)
+
+static void arcs(void) {
+    struct kranichseil_report p;
+    arc(five);
+    p = run(1); IS(p.count, 1); IS(p.why, 1); REACHED(0, 4, -1, 8, 400, 0x8000); IS(dots(), 0);       // FIGD's unit moves nothing
+    p = run(1); IS(p.count, 1); IS(p.why, 1); REACHED(1, 0, -5, 8, 320, 0x8000); IS(memory[360], 0x8000); IS(dots(), 1);
+    struct kranichseil_registers middle = r;
+    p = run(1); IS(p.count, 1); IS(p.why, 1); REACHED(2, 3, -7, 6, 281, 0x0001); IS(memory[320], 0x8000); IS(dots(), 2);
+    p = run(9); IS(p.count, 1); IS(p.why, 2); ENDED(281, 0x0001); IS(memory[281], 0x0001); IS(dots(), 3);
+    IS(r.drawing.dc, 3); IS(r.drawing.d, 4); IS(r.drawing.d2, 8); IS(r.drawing.d1, 16383); IS(r.drawing.dm, 1);
+    memset(memory, 0, sizeof memory);                                      // the set of the middle, handed in again, by value
+    struct kranichseil_ran n = kranichseil_run(middle, memory, length, 9);
+    IS(n.number, 0); IS(n.count, 2); IS(n.why, 2); IS(same(&n.regs, &r), 1);
+    IS(memory[320], 0x8000); IS(memory[281], 0x0001); IS(dots(), 2);
+    arc(five); run(1); IS(command(0x00), 0); ENDED(400, 0x8000); IS(run(9).count, 0); IS(dots(), 0);  // RESET before the first dot
+    r = middle; IS(command(0x00), 0); ENDED(320, 0x8000); IS(run(9).count, 0); IS(dots(), 0);         // .. and after it
+    r = middle; IS(kranichseil_board_write(&r, 0x100).number, 0); ENDED(320, 0x8000);
+    r = middle; IS(kranichseil_board_read(&r, 0).value, 0x0C); IS(same(&r, &middle), 1);
+    arc(five); r.ram[8] = 2; r.ram[9] = 0; p = run(9); IS(p.count, 4);     // the pattern has bit 1 alone: dot 1, the first that is drawn
+    IS(dots(), 1); IS(memory[360], 0x8000);
+    arc("\x23\x03\x00\x04\x00\x08\x00\xFF\x3F\x04\x00");                  // DM 4: no dot is left, and FIGD's unit makes the DC moves
+    p = run(9); IS(p.count, 1); IS(p.why, 2); ENDED(281, 0x0001); IS(dots(), 0);
+    arc("\x20\x03\x00\x04\x00\x08\x00\xFF\x3F\x00\x00");                  // down from the same end, DIR 0 and DM 0
+    p = run(9); IS(p.count, 5); IS(p.why, 2); ENDED(521, 0x0001); IS(dots(), 4);
+    IS(memory[400], 0x8000); IS(memory[440], 0x8000); IS(memory[480], 0x8000); IS(memory[521], 0x0001);
+    arc(five); run(2); UNSOUND(work.dot = 3); UNSOUND(work.dot = 0x10000); UNSOUND(work.d = 16384); UNSOUND(work.d1 = 16384);
+    UNSOUND(work.d2 = 16384); UNSOUND(mode = KRANICHSEIL_READ); UNSOUND(drawing.kind = 5); UNSOUND(drawing.dm = 3); UNSOUND(work.kind = 5);
+    UNSOUND(work.kind = KRANICHSEIL_FIGURE); UNSOUND(work.transfer = 1); UNSOUND(work.item = 1); UNSOUND(work.row = 1);
+    UNSOUND(work.column = 1); UNSOUND(work.start.ead = 1); UNSOUND(work.start.mask = 1);
+    r.work.dot = 2; r.work.d = r.work.d1 = r.work.d2 = 16383; IS(kranichseil_status(r).number, 0);    // sound, though none of the circle's
+    start(); NO_ARC(); SEND(0x4C, "\x09\x05\x00"); IS(command(0x6C), 0); run(2); NO_ARC();            // other work has no D1 and no D2
+    start(); SEND(0x4C, "\x12\x07\x00"); IS(command(0x68), 0); run(2); IS(r.work.kind, KRANICHSEIL_CHARACTER); NO_ARC();
+    start(); SEND(0x4C, "\x02\x14\x00"); IS(command(0xB0), 0); run(2); IS(r.work.kind, KRANICHSEIL_READING); NO_ARC();
 }
 
 // ---- refusals 11 to 20: the number, two values, and an output that is as it was
@@ -268,6 +328,7 @@ int main(void) {
     section("worked cases", worked);
     section("sheets", sheets);
     section("refusals 1 to 6", refusals);
+    section("an arc", arcs);
     section("refusals 11 to 20", sheet_refusals);
     return checked();
 }

@@ -25,7 +25,7 @@
 enum { KRANICHSEIL_REPLACE, KRANICHSEIL_COMPLEMENT, KRANICHSEIL_CLEAR, KRANICHSEIL_SET };   /* op; 2 is 01's RESET */
 enum { KRANICHSEIL_WRITE, KRANICHSEIL_READ };                                               /* mode */
 enum { KRANICHSEIL_WORD, KRANICHSEIL_LOW, KRANICHSEIL_HIGH };                               /* transfer */
-enum { KRANICHSEIL_IDLE, KRANICHSEIL_FIGURE, KRANICHSEIL_CHARACTER, KRANICHSEIL_READING };  /* work.kind */
+enum { KRANICHSEIL_IDLE, KRANICHSEIL_FIGURE, KRANICHSEIL_CHARACTER, KRANICHSEIL_READING, KRANICHSEIL_ARC }; /* work.kind */
 enum {                                                                                      /* progress.command */
     KRANICHSEIL_NOTHING, KRANICHSEIL_RESET, KRANICHSEIL_VSYNC, KRANICHSEIL_CCHAR, KRANICHSEIL_START, KRANICHSEIL_ZOOM,
     KRANICHSEIL_CURS, KRANICHSEIL_PRAM, KRANICHSEIL_PITCH, KRANICHSEIL_MASK, KRANICHSEIL_FIGS, KRANICHSEIL_FIGD,
@@ -68,17 +68,18 @@ struct kranichseil_progress {           /* 4 bytes; the command in progress */
     uint8_t low;                        /* 3: the first byte of a half-sent word */
 };
 
-struct kranichseil_work {               /* 28 bytes; what is in progress */
+struct kranichseil_work {               /* 32 bytes; what is in progress */
     uint8_t kind;                       /* 0 */
     uint8_t transfer;                   /* 1: of a read */
-    uint16_t d;                         /* 2: of a figure: the running copy of D */
-    uint16_t item;                      /* 4: of a read: the item reached */
-    uint32_t dot;                       /* 8: of a figure: the dot reached */
-    uint32_t row, column;               /* 12, 16: of a character: the row and the dot of it that are reached */
-    struct kranichseil_cursor start;    /* 20: of a character: where the row started */
+    uint16_t d;                         /* 2: of a figure or an arc: the running copy of D */
+    uint16_t d1, d2;                    /* 4, 6: of an arc: the running copies of D1 and D2, 14 bits each as D's */
+    uint16_t item;                      /* 8: of a read: the item reached */
+    uint32_t dot;                       /* 12: of a figure: the dot reached; of an arc: the cycles done */
+    uint32_t row, column;               /* 16, 20: of a character: the row and the dot of it that are reached */
+    struct kranichseil_cursor start;    /* 24: of a character: where the row started */
 };
 
-struct kranichseil_registers {          /* 132 bytes */
+struct kranichseil_registers {          /* 136 bytes */
     struct kranichseil_cursor cursor;   /* 0 */
     uint8_t pitch;                      /* 8 */
     struct kranichseil_drawing drawing; /* 10 */
@@ -92,13 +93,13 @@ struct kranichseil_registers {          /* 132 bytes */
     struct kranichseil_work work;       /* 104 */
 };
 
-struct kranichseil_answer {             /* 136 bytes; of a port */
+struct kranichseil_answer {             /* 140 bytes; of a port */
     uint8_t number;                     /* 0 */
     uint8_t value;                      /* 1: the byte read */
     struct kranichseil_registers regs;  /* 4 */
 };
 
-struct kranichseil_ran {                /* 144 bytes; of a run */
+struct kranichseil_ran {                /* 148 bytes; of a run */
     uint8_t number;                     /* 0 */
     uint32_t count;                     /* 4: units done */
     uint8_t why;                        /* 8 */

@@ -282,10 +282,13 @@ read-mode m = go (eqb m 0)
     go true = refl
     go false = refl
 
-figure-of : (k : ℕ) (w : PlainWork) → (eqb k 1 || eqb k 2) ≡ figureInProgressB (workOf (record {
+-- all that is in progress but a read is a figure
+figure-of : (k : ℕ) (w : PlainWork) → (not (eqb k 0) && not (eqb k 3)) ≡ figureInProgressB (workOf (record {
   kind = k;
   transfer = w .transfer;
   d = w .d;
+  d1 = w .d1;
+  d2 = w .d2;
   item = w .item;
   dot = w .dot;
   row = w .row;
@@ -295,13 +298,15 @@ figure-of : (k : ℕ) (w : PlainWork) → (eqb k 1 || eqb k 2) ≡ figureInProgr
 figure-of zero w = refl
 figure-of (suc zero) w = refl
 figure-of (suc (suc zero)) w = refl
-figure-of (suc (suc (suc k))) w =
-    let n = suc (suc (suc k)) in
+figure-of (suc (suc (suc zero))) w = refl
+figure-of (suc (suc (suc (suc k)))) w =
+    let n = suc (suc (suc (suc k))) in
     rw (
       ne-eqb n 0 (λ (z : n ≡ 0). absurd (omega arith)),
       ne-eqb n 1 (λ (z : n ≡ 1). absurd (omega arith)),
       ne-eqb n 2 (λ (z : n ≡ 2). absurd (omega arith)),
+      ne-eqb n 3 (λ (z : n ≡ 3). absurd (omega arith)),
     )
 
-pub figure-there : (w : PlainWork) → (eqb (w .kind) 1 || eqb (w .kind) 2) ≡ figureInProgressB (workOf w)
+pub figure-there : (w : PlainWork) → (not (eqb (w .kind) 0) && not (eqb (w .kind) 3)) ≡ figureInProgressB (workOf w)
 figure-there w = figure-of (w .kind) w

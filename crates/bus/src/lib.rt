@@ -216,7 +216,7 @@ pub fn write_plain(p: PlainRegisters, e: u16) -> PlainAnswer
 fn status_plain(p: PlainRegisters) -> u8
     ensures { λ v. ⌜ v ≡ statusOf (fromPlain p) ⌝ }
 {
-    let drawing = (p.work.kind == 1) | (p.work.kind == 2);
+    let drawing = (p.work.kind != 0) & (p.work.kind != 3);
     status::status_by(
         plain::numbers::bit_of(p.pen.set),
         drawing,
