@@ -63,6 +63,14 @@ static void make_list(size_t about) {
 }
 
 // ---- sets: what a list, bytes to the ports and a run that stops anywhere leave
+// One with an arc of radius 15 that has stopped anywhere; up to eleven of its eleven dots are passed over.
+static struct kranichseil_registers with_arc(struct kranichseil_registers r) {
+    count = 0;
+    ADD("\x4C\x20\x0A\x00\x0E\x00\x1C\x00\xFF\x3F\x00\x00");
+    list[1] = (uint16_t)(0x20 + random_below(8)); list[10] = (uint16_t)random_below(12);
+    sent(&r, list, count, ours);
+    return kranichseil_run(written(r, 0x16C).regs, ours, length, random_below(14)).regs;
+}
 static struct kranichseil_registers some_set(void) {
     struct kranichseil_registers r = kranichseil_fresh();
     make_list(random_below(40));
@@ -71,6 +79,7 @@ static struct kranichseil_registers some_set(void) {
     make_list(random_below(20));
     for (size_t i = 0; i < count; i++) r = written(r, list[i]).regs;
     r = kranichseil_run(r, ours, length, random_below(50)).regs;
+    if (random_below(6) == 0) r = with_arc(r);
     for (uint32_t i = random_below(4) ? 0 : random_below(17); i > 0; i--) r = kranichseil_parameter(r, random_byte() & 0xC0).regs;
     return r;
 }
