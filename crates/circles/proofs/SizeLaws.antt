@@ -3,7 +3,7 @@
 -- follows from 2i² ≤ r². No i and no y is more than r.
 use mathlib.Core.Path.{_≡_, refl, sym, ap, ap₂, _∙_}
 use mathlib.Core.Bool.{Bool, true, false, cond}
-use Prim.Native.Nat.{ℕ, suc, _+_, _-_, _*_, _≤_, _<_}
+use Prim.Native.Nat.{ℕ, zero, suc, _+_, _-_, _*_, _≤_, _<_}
 use native.Mathlib.Nat.{mul-assoc, mul-le-mul}
 use native.Mathlib.Omega.{arith}
 use native.Mathlib.Decide.{decLt}
@@ -11,9 +11,13 @@ use lib.Dec.{leb}
 use borrow.Author.Tests.{leb-true, le-leb, eqb-true, eq-eqb}
 use Rattle.geometry.specs.Plane.{InPlane, distance, liesOut, circleOn}
 use Rattle.geometry.proofs.TestLaws.{cases, same-test, or-cases}
-use Rattle.circles.specs.Circle.{circleOut, largest, coincide, arcDm, arcDc, endX, endY}
+use Rattle.circles.specs.Circle.{outBelow, circleOut, lastBelow, largest, coincide, arcDm, arcDc, endX, endY}
 use Rattle.circles.proofs.OutLaws.{square-le, out-lies, out-le, out-is, out-of, out-positive, within, within-r, to-largest}
 use Rattle.circles.proofs.CircleLaws.{arc-circle, arc-starts}
+
+-- no square of a number of 16 bits, or of one more, passes 33 bits
+pub square-small : (i : ℕ) → i ≤ 65536 → i * i ≤ 4294967296
+square-small i h = let f : i * i ≤ 65536 * 65536 = square-le h in f
 
 -- ---- the largest i
 pub largest-is : (r i : ℕ) → 2 * (i * i) ≤ r * r → r * r < 2 * (suc i * suc i) → i ≡ largest r
@@ -47,13 +51,16 @@ module _ (r : ℕ) (pos : 0 < r) where
       le-leb (r * r) (2 * (i * i) + i) (omega (arith, eqb-true (circleOut r i) i e, out-of r pos i (omega arith) .outer)))
       (λ e. eq-eqb (circleOut r i) i (out-is (record { inner = inside (decLt 0 i); outer = omega (arith, leb-true (r * r) (2 * (i * i) + i) e) })))
 
-  pub coincide-by : (n a b : ℕ) → n ≡ largest r → a ≡ r * r → b ≡ n * n → leb a (2 * b + n) ≡ coincide r
-  coincide-by n a b e f g = rw (f, g, e) (sym coincide-is)
-
   -- where they coincide there is a dot past the axis
   coincide-pos : coincide r ≡ true → 0 < i
   unfolding coincide
   coincide-pos e = omega (arith, eqb-true (circleOut r i) i e, out-positive r pos i (omega arith))
+
+-- .. and it is the same at radius 0, where the only dot is the centre
+pub coincide-by : (r n : ℕ) → n ≡ largest r → leb (r * r) (2 * (n * n) + n) ≡ coincide r
+unfolding coincide circleOut outBelow largest lastBelow
+coincide-by zero n e = rw e
+coincide-by (suc r) n e = rw e (sym (coincide-is (suc r) (omega arith)))
 
 -- ---- how far it reaches
 module _ (cx cy r : ℕ) where
