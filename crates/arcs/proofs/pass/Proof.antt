@@ -1,38 +1,39 @@
+-- `pass`: after k rounds k moves are made.
+use mathlib.Core.Path.{_≡_, refl, ap, _∙_}
+use Prim.Native.Nat.{_≤_, _-_}
+use native.Mathlib.Numerals.{add-one}
+use native.Mathlib.Omega.{arith}
+use Rattle.arcs.specs.Arc.{passed, movedOn}
+use borrow.Author.Needs.{needs}
 use Rattle.arcs.proofs.pass.Statement.{statement}
 use Rattle.arcs.proofs.pass.Tie as tie
-use Rattle.arcs.proofs.pass.Reads as reads
-use Rattle.arcs.proofs.pass.Lts as lts
-use Rattle.arcs.proofs.move_on.Reads as move-on-reads
 
 abbrev Inv-loop : tie.InvT-loop
-Inv-loop dir pitch n at₀ k₀ at k = ?
+Inv-loop dir pitch n at₀ k₀ at k = (k ≤ n) × (at ≡ passed dir pitch at₀ k)
 
 abbrev μ-loop : tie.MeasureT-loop
-μ-loop dir pitch n at₀ k₀ at k = ?
+μ-loop dir pitch n at₀ k₀ at k = n - k
 
--- src/lib.rt:89:5
 loop-holds : tie.Need-loop-holds Inv-loop μ-loop
-loop-holds c = ?
+unfolding passed
+loop-holds c = (omega arith, refl)
 
--- src/lib.rt:90:9
 move-on-requires : tie.Need-move-on-requires Inv-loop μ-loop
-move-on-requires c κs = ?
+move-on-requires c κs = search needs
 
--- src/lib.rt:91:9
 add-k : tie.Need-add-k Inv-loop μ-loop
-add-k c = ?
+add-k c = omega arith
 
--- src/lib.rt:89:5
 loop-less : tie.Need-loop-less Inv-loop μ-loop
-loop-less c = ?
+loop-less c = omega arith
 
--- src/lib.rt:89:5
 loop-again : tie.Need-loop-again Inv-loop μ-loop
-loop-again c = ?
+unfolding passed
+loop-again c =
+    (omega arith, rw (add-one (c .before .before .loop .k)) (c .move-on .ensures ∙ ap (movedOn _ _) (c .before .before .loop .inv .1)))
 
--- src/lib.rt:84:1
 returns : tie.Need-returns Inv-loop μ-loop
-returns c = ?
+returns c = let e : c .before .loop .k ≡ c .before .before .args .n = omega arith in rw (← e) (c .before .loop .inv .1)
 
 pub pass-spec : {M : Type 1} → statement M
 pass-spec =

@@ -40,8 +40,8 @@ refresh-requires c κs = search needs
 enum-told-5 : tie.Need-enum-told-5
 enum-told-5 c = search needs
 
-begin-figure-requires : tie.Need-begin-figure-requires
-begin-figure-requires c κs = search needs
+begin-figd-requires : tie.Need-begin-figd-requires
+begin-figd-requires c κs = search needs
 
 enum-told-6 : tie.Need-enum-told-6
 enum-told-6 c = search needs
@@ -102,7 +102,7 @@ returns-4 c =
 returns-5 : tie.Need-returns-5
 returns-5 c =
     taken-by _ _ (c .before .before .before .before .command-of .ensures) (c .before .before .before .begin .ensures)
-    (c .before .enum-told5 .given .1) (c .begin-figure .ensures)
+    (c .before .enum-told5 .given .1) (c .begin-figd .ensures)
 
 returns-6 : tie.Need-returns-6
 returns-6 c =
@@ -149,7 +149,7 @@ command-taken-spec =
     enum-told-4
     refresh-requires
     enum-told-5
-    begin-figure-requires
+    begin-figd-requires
     enum-told-6
     begin-character-requires
     enum-told-7
