@@ -35,8 +35,15 @@ fn lose(n: u16) -> u16
     ((n as u32 + TWO_LESS) % FOURTEEN_BITS) as u16
 }
 
+// Whether the next move is diagonal.
+pub fn turns(a: Running) -> bool
+    ensures { λ t. ⌜ t ≡ turnsB a ⌝ }
+{
+    SIGN <= gain(a)
+}
+
 // D, D1 and D2 after a move.
-fn run_on(a: Running) -> Running
+pub fn run_on(a: Running) -> Running
     ensures { λ q. ⌜ q ≡ runningOn a ⌝ }
 {
     let d = gain(a);
@@ -60,7 +67,7 @@ fn run_on(a: Running) -> Running
 fn direction(dir: u8, a: Running) -> u8
     ensures { λ n. ⌜ n ≡ arcDirection dir a ⌝ }
 {
-    if SIGN <= gain(a) {
+    if turns(a) {
         return figures::figure::diagonal_of(dir);
     }
     figures::figure::axis_of(dir)

@@ -17,7 +17,7 @@ pub struct Burst {
 }
 
 // The dots from dot k on, before the last of all.
-fn before_last(k: u32, all: u32) -> u32
+pub fn before_last(k: u32, all: u32) -> u32
     ensures { λ n. ⌜ n ≡ all - 1 - k ⌝ }
 {
     if k < all {

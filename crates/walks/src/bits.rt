@@ -4,7 +4,7 @@ ghost use mathlib.Core.Path.{_≡_};
 ghost use Rattle.walks.specs.Address.{Address, Stride};
 
 // The bit address of a cursor whose mask is one bit; of any other 2^22.
-pub(crate) fn address_of(c: Cursor) -> u32
+pub fn address_of(c: Cursor) -> u32
     ensures { λ a. ⌜ Address c a ⌝ }
 {
     let n = u16::trailing_zeros(c.mask) % 16;
@@ -20,7 +20,7 @@ pub(crate) fn address_of(c: Cursor) -> u32
 }
 
 // What a step along a direction adds to the bit address.
-pub(crate) fn stride(dir: u8, pitch: u8) -> u32
+pub fn stride(dir: u8, pitch: u8) -> u32
     ensures { λ n. ⌜ Stride dir pitch n ⌝ }
 {
     let line = 16 * pitch as u32;

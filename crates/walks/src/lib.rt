@@ -6,7 +6,7 @@ ghost use mathlib.Core.Path.{_≡_};
 ghost use Prim.Native.Nat.{_-_};
 ghost use Rattle.walks.specs.Walk.{least, led, stood, figureWalk, rowWalk, rowsWalk, nextRow};
 
-mod bits;
+pub mod bits;
 mod line;
 mod side;
 pub mod steps;
