@@ -3,3 +3,4 @@ pub mod WayLaws
 pub mod CircleLaws
 pub mod OrderLaws
 pub mod SizeLaws
+pub mod OutsideLaws
