@@ -197,55 +197,68 @@ static inline __attribute__((always_inline)) uint32_t draw_sides(struct hand *h,
     return k - first;
 }
 
-/* What moves along an arc. D, D1 and D2 run past their 14 bits here: bit 13 and those below it are as if they did not, and they are cut
-   where they are stored. */
+/* An arc in locals, each of its own. D, D1 and D2 run past their 14 bits here: bit 13 and those below it are as if they did not, and they
+   are cut where they are stored. */
 struct arc {
-    struct cursor c;
-    uint16_t d, d1, d2;
+    uint32_t ead, mask, d, d1, d2;
+    struct step axis, diagonal;
 };
 
-static inline struct arc moved(struct arc a, struct step axis, struct step diagonal) {
-    a.d += a.d1;
-    a.d1 -= 2;
-    if (a.d & 0x2000) {
-        a.c = stepped(a.c, diagonal);
-        a.d += a.d2;
-        a.d2 -= 2;
-    } else {
-        a.c = stepped(a.c, axis);
-    }
-    return a;
-}
-
-/* So many moves without a cycle, from where the arc stands. */
-static struct arc passed_over(const struct hand *h, uint32_t moves) {
+static struct arc arc_of(const struct hand *h) {
     const struct step axis = step_along(h->dir + (h->dir & 1u), h->pitch), diagonal = step_along(h->dir | 1u, h->pitch);
-    struct arc a = {{h->ead, h->mask}, h->running, h->run1, h->run2};
-    while (moves--) a = moved(a, axis, diagonal);
-    return a;
+    return (struct arc){h->ead, h->mask, h->running, h->run1, h->run2, axis, diagonal};
 }
 
-/* "The mask and cursor move on passed-over dots, .. in the unit that meets the next dot", so before the first cycle. */
+static void keep(struct hand *h, const struct arc *a) {
+    h->ead = a->ead & 0x3FFFF;
+    h->mask = (uint16_t)a->mask;
+    h->running = a->d & 0x3FFF;
+    h->run1 = a->d1 & 0x3FFF;
+    h->run2 = a->d2 & 0x3FFF;
+}
+
+static inline __attribute__((always_inline)) void step_on(struct arc *a, struct step s) {
+    a->ead += s.lines;
+    if (s.side > 0) {
+        a->ead += a->mask >> 15;
+        a->mask = (a->mask << 1 | a->mask >> 15) & 0xFFFF;
+    } else if (s.side < 0) {
+        a->ead -= a->mask & 1;
+        a->mask = (a->mask >> 1 | a->mask << 15) & 0xFFFF;
+    }
+}
+
+static inline __attribute__((always_inline)) void move_on(struct arc *a) {
+    a->d += a->d1;
+    a->d1 -= 2;
+    if (a->d & 0x2000) {
+        step_on(a, a->diagonal);
+        a->d += a->d2;
+        a->d2 -= 2;
+    } else {
+        step_on(a, a->axis);
+    }
+}
+
+/* "The mask and cursor move on passed-over dots, .. in the unit that meets the next dot": before the first cycle. */
 static inline __attribute__((always_inline)) uint32_t draw_arc(struct hand *h, uint16_t *mem, uint32_t fold, uint32_t budget, uint8_t op) {
     const uint16_t word = h->ram[8] | h->ram[9] << 8;
     const uint32_t cycles = arc_cycles(h), first = h->dot, stop = cycles - first < budget ? cycles : first + budget, dm = h->dm;
-    const struct step axis = step_along(h->dir + (h->dir & 1u), h->pitch), diagonal = step_along(h->dir | 1u, h->pitch);
-    struct arc a = passed_over(h, first ? 0 : dm);
+    struct arc a = arc_of(h);
     uint32_t k = first;
+    for (uint32_t over = first ? 0 : dm; over; over--) move_on(&a);
     for (;;) {
-        mem[a.c.ead & fold] = combined(op, mem[a.c.ead & fold], a.c.mask, word >> ((dm + k) & 15) & 1 ? 0xFFFF : 0);
+        mem[a.ead & fold] = combined(op, mem[a.ead & fold], (uint16_t)a.mask, word >> ((dm + k) & 15) & 1 ? 0xFFFF : 0);
         k++;
         if (k == cycles) {
             h->work = IDLE;
             break;
         }
-        a = moved(a, axis, diagonal);
+        move_on(&a);
         if (k == stop) break;
     }
-    h->ead = a.c.ead & 0x3FFFF;
-    h->mask = a.c.mask;
+    keep(h, &a);
     h->dot = k;
-    h->running = a.d & 0x3FFF, h->run1 = a.d1 & 0x3FFF, h->run2 = a.d2 & 0x3FFF;
     return k - first;
 }
 
@@ -334,10 +347,10 @@ static void begin_figure(struct hand *h) {
         h->work = FIGURE;
     } else if (arc_cycles(h)) {
         h->work = ARC;
-    } else if (h->type == 4) { /* "or that takes FIGD if no dot is left to draw; .. the DC moves are made" */
-        struct cursor end = passed_over(h, h->dc).c;
-        h->ead = end.ead & 0x3FFFF;
-        h->mask = end.mask;
+    } else if (h->type == 4) { /* "or that takes FIGD if no dot is left to draw; .. and the DC moves are made" */
+        struct arc a = arc_of(h);
+        for (uint32_t over = h->dc; over; over--) move_on(&a);
+        keep(h, &a);
     }
 }
 
