@@ -300,11 +300,21 @@ static inline __attribute__((always_inline)) uint32_t draw_character(struct hand
 static uint32_t draw_with(struct hand *h, uint16_t *mem, uint32_t fold, uint32_t budget, uint8_t op) __attribute__((always_inline));
 static inline uint32_t draw_with(struct hand *h, uint16_t *mem, uint32_t fold, uint32_t budget, uint8_t op) {
     if (h->work == CHARACTER) return draw_character(h, mem, fold, budget, op);
-    if (h->work == ARC) return draw_arc(h, mem, fold, budget, op);
     return h->type == 1 ? draw_line(h, mem, fold, budget, op) : draw_sides(h, mem, fold, budget, op);
 }
 
+/* Arcs apart from the others, so that each has the machine's registers to itself. */
+static __attribute__((noinline)) uint32_t draw_arcs(struct hand *h, uint16_t *mem, uint32_t fold, uint32_t budget) {
+    switch (h->op) {
+    case 0: return draw_arc(h, mem, fold, budget, 0);
+    case 1: return draw_arc(h, mem, fold, budget, 1);
+    case 2: return draw_arc(h, mem, fold, budget, 2);
+    default: return draw_arc(h, mem, fold, budget, 3);
+    }
+}
+
 static uint32_t draw(struct hand *h, uint16_t *mem, uint32_t fold, uint32_t budget) {
+    if (h->work == ARC) return draw_arcs(h, mem, fold, budget);
     switch (h->op) {
     case 0: return draw_with(h, mem, fold, budget, 0);
     case 1: return draw_with(h, mem, fold, budget, 1);
