@@ -1,6 +1,6 @@
 -- A figure that FIGD draws, from CURS to its last dot, the operation being set: if the walk of its registers changes a shape of the
--- plane once, as geometry shows of dots, lines and rectangles, then its entries are accepted and change just that shape. A dot is the
--- first case. Shapes that have no dot in common, drawn one after the other, are one shape.
+-- plane once, as geometry shows of dots, lines and rectangles and circling of arcs, then its entries are accepted and change just that
+-- shape. A dot is the first case. Shapes that have no dot in common, drawn one after the other, are one shape.
 use mathlib.Core.Path.{_≡_, refl, sym, subst}
 use mathlib.Core.Bool.{true, false}
 use mathlib.Core.List.{List, [], _∷_, _++_}
@@ -11,7 +11,7 @@ use Rattle.dots.specs.declared.Operation.{Operation}
 use Rattle.dots.specs.Bit.{bit}
 use Rattle.dots.specs.Dot.{cursorAt}
 use Rattle.dots.proofs.DotLaws.{address}
-use Rattle.geometry.specs.Plane.{InPlane, Picture, Shape, solid, dotOn}
+use Rattle.geometry.specs.Plane.{InPlane, Picture, Shape, changed, solid, dotOn}
 use Rattle.geometry.proofs.WalkLaws.{Sized, walk}
 use Rattle.geometry.proofs.CycleLaws.{cycles, Drawn, drawn-as, eitherOn, drawn-both}
 use Rattle.geometry.proofs.FigureLaws.{dot-drawn}
@@ -24,7 +24,7 @@ use Rattle.registers.specs.State.{State}
 use Rattle.figures.specs.Figure.{patternAt}
 use Rattle.units.specs.Run.{lengthB}
 use Rattle.sending.proofs.WaitLaws.{Waiting}
-use Rattle.sending.proofs.SendLaws.{Leads, leads-then, Acts}
+use Rattle.sending.proofs.SendLaws.{Leads, leads-then, leads-nothing, Acts}
 use Rattle.sending.proofs.GroupLaws.{drawingSet, acts-figs}
 use Rattle.sending.proofs.DrawLaws.{stepAt, ended, figd, figd-draws, figd-waits}
 use Rattle.demand.proofs.HeadLaws.{aimed, acts-head, pattern-ones}
@@ -62,6 +62,20 @@ draws-as same e d =
       drawn = drawn-as same (d .drawn);
     }
 
+-- no entries, no dots
+pub draws-nothing : {p h : ℕ} {op : Operation} {ink : Picture} (s : State) → Held p h s → s .regs .op ≡ op
+    → Draws p h op (λ x y. false) ink s [] 0
+unfolding changed
+draws-nothing s held is =
+    record {
+      after = s;
+      leads = leads-nothing s;
+      waits = held .waits;
+      pitch = held .pitch;
+      keeps = is;
+      drawn = record { long = refl; dots = λ x y i. refl; words = λ j k. refl };
+    }
+
 -- two shapes that have no dot in common, one after the other
 pub draws-both : {p h : ℕ} {op : Operation} {a b : Shape} {ink : Picture} {s : State} {l k : List ℕ} {m n : ℕ}
     → ((x y : ℕ) → a x y ≡ true → b x y ≡ false) → (d : Draws p h op a ink s l m) → Draws p h op b ink (d .after) k n
@@ -74,6 +88,17 @@ draws-both apart d e =
       pitch = e .pitch;
       keeps = e .keeps;
       drawn = drawn-both apart (d .drawn) (e .drawn);
+    }
+
+-- what it leaves is what the next one asks
+pub draws-held : {p h : ℕ} {op : Operation} {on : Shape} {ink : Picture} {s : State} {l : List ℕ} {n : ℕ}
+    → Held p h s → (d : Draws p h op on ink s l n) → Held p h (d .after)
+draws-held held d =
+    record {
+      waits = d .waits;
+      pitch = d .pitch;
+      room = rw (d .drawn .long) (held .room);
+      lawful = rw (d .drawn .long) (held .lawful);
     }
 
 module _ (p h : ℕ) (sized : Sized p h) (s : State) (held : Held p h s) (op : Operation) (is : s .regs .op ≡ op) (a : Point)

@@ -1,5 +1,6 @@
--- Every figure that a sheet holds lies in the plane: a figure that was decoded has a factor of 1 to 16, it is taken only where its corners
--- or its square pass the test of 19, and a record that is refused gives none. No word of what else is refused.
+-- Every figure that a sheet holds lies in the plane: a figure that was decoded has a factor of 1 to 16 or a radius of 1 to 2,000, it is taken
+-- only where its corners, its square or its four ends pass the test of 19, and a record that is refused gives none. No word of what else is
+-- refused.
 -- And that test is true exactly if every dot of the figure's shape lies in the plane, false exactly if one lies outside.
 use mathlib.Core.Path.{_≡_, refl}
 use mathlib.Core.Bool.{Bool, true, false, cond, _&&_}
@@ -7,7 +8,7 @@ use mathlib.Core.List.{List, [], _∷_, _++_}
 use Prim.Native.Nat.{ℕ, zero, suc, _+_, _*_, _≤_, _<_}
 use native.Mathlib.Omega.{arith}
 use lib.Dec.{eqb, ltb, leb}
-use borrow.Author.Tests.{ltb-true, leb-true, eqb-false}
+use borrow.Author.Tests.{ltb-true, leb-true, eqb-true, eqb-false}
 use Rattle.dots.specs.Operation.{operationOf}
 use Rattle.geometry.specs.Plane.{InPlane}
 use Rattle.geometry.proofs.TestLaws.{cases, and-both}
@@ -17,14 +18,14 @@ use Rattle.records.specs.declared.Room.{Room}
 use Rattle.records.specs.declared.Point.{Point}
 use Rattle.records.specs.declared.Record.{Record}
 use Rattle.records.specs.declared.Figure.{Figure}
-use Rattle.records.specs.declared.Figure.the-variants.{Dot, Line, Rectangle, Glyph}
+use Rattle.records.specs.declared.Figure.the-variants.{Dot, Line, Rectangle, Glyph, Circle}
 use Rattle.records.specs.declared.Decoded.{Decoded}
 use Rattle.records.specs.declared.Decoded.the-variants.{Good, Refused}
 use Rattle.records.specs.Raw.{rawAt}
-use Rattle.records.specs.declared.Refusal.the-variants.{Form, GlyphNumber, Factor}
-use Rattle.records.specs.Decode.{point, recordFormB, knownB, factorB, figureOf, decodedOf, decodedAt}
+use Rattle.records.specs.declared.Refusal.the-variants.{Form, GlyphNumber, Factor, Radius}
+use Rattle.records.specs.Decode.{point, recordFormB, knownB, factorB, radiusB, figureOf, decodedOf, decodedAt}
 use Rattle.records.specs.Inside.{pointB, insideB, judged}
-use Rattle.records.proofs.FormLaws.{Formed, form-means, factor-means, else-glyph}
+use Rattle.records.proofs.FormLaws.{Formed, form-means, factor-means, radius-means, else-circle}
 use Rattle.refusals.specs.Refusals.{roomOf, placeOf, usedB, slotDecoded}
 use Rattle.sheets.specs.Slots.{figuresIn, slotFigures, figuresFrom, figures}
 use Rattle.demand.specs.Picture.{figureOn}
@@ -36,30 +37,46 @@ pub record Square (p h : ℕ) (a : Point) (g : ℕ) : Type 0 where
   pub right : a .x + 8 * g ≤ 16 * p
   pub low : a .y + 8 * g ≤ h
 
+-- a circle's radius is 1 to 2,000, and its four ends lie in the plane
+pub record Round (p h : ℕ) (a : Point) (r : ℕ) : Type 0 where
+  pub some : 0 < r
+  pub few : r ≤ 2000
+  pub left : r ≤ a .x
+  pub top : r ≤ a .y
+  pub right : a .x + r < 16 * p
+  pub low : a .y + r < h
+
 abbrev pub Inside : ℕ → ℕ → Figure → Type 0
 Inside p h (Dot a) = InPlane p h (a .x) (a .y)
 Inside p h (Line a b) = InPlane p h (a .x) (a .y) × InPlane p h (b .x) (b .y)
 Inside p h (Rectangle a b) = InPlane p h (a .x) (a .y) × InPlane p h (b .x) (b .y)
 Inside p h (Glyph a n g) = Square p h a g
+Inside p h (Circle a r) = Round p h a r
 
--- a glyph's factor is 1 to 16, as 18 asks
-abbrev pub Factored : Figure → Type 0
-Factored (Dot a) = Unit
-Factored (Line a b) = Unit
-Factored (Rectangle a b) = Unit
-Factored (Glyph a n g) = (1 ≤ g) × (g ≤ 16)
+-- a glyph's factor is 1 to 16 and a circle's radius 1 to 2,000, as 18 asks
+abbrev pub Measured : Figure → Type 0
+Measured (Dot a) = Unit
+Measured (Line a b) = Unit
+Measured (Rectangle a b) = Unit
+Measured (Glyph a n g) = (1 ≤ g) × (g ≤ 16)
+Measured (Circle a r) = (1 ≤ r) × (r ≤ 2000)
 
-factored : (r : Raw) → Formed r → (r .kind ≡ 4 → (1 ≤ r .factor) × (r .factor ≤ 16)) → Factored (figureOf r)
-unfolding figureOf
-factored r w f = go (eqb (r .kind) 1) refl (eqb (r .kind) 2) refl (eqb (r .kind) 3) refl
-  where
-    go : (a : Bool) → eqb (r .kind) 1 ≡ a → (b : Bool) → eqb (r .kind) 2 ≡ b → (c : Bool) → eqb (r .kind) 3 ≡ c
-        → Factored (cond a (Dot (point (r .x) (r .y))) (cond b (Line (point (r .x) (r .y)) (point (r .x1) (r .y1)))
-        (cond c (Rectangle (point (r .x) (r .y)) (point (r .x1) (r .y1))) (Glyph (point (r .x) (r .y)) (r .number) (r .factor)))))
-    go true x b y c z = tt
-    go false x true y c z = tt
-    go false x false y true z = tt
-    go false x false y false z = f (else-glyph r w (eqb-false _ 1 x) (eqb-false _ 2 y) (eqb-false _ 3 z))
+module _ (r : Raw) (w : Formed r) (f : factorB r ≡ true) (g : radiusB r ≡ true) where
+  measured : Measured (figureOf r)
+  unfolding figureOf
+  measured = go (eqb (r .kind) 1) refl (eqb (r .kind) 2) refl (eqb (r .kind) 3) refl (eqb (r .kind) 4) refl
+    where
+      go : (a : Bool) → eqb (r .kind) 1 ≡ a → (b : Bool) → eqb (r .kind) 2 ≡ b → (c : Bool) → eqb (r .kind) 3 ≡ c
+          → (d : Bool) → eqb (r .kind) 4 ≡ d
+          → Measured (cond a (Dot (point (r .x) (r .y))) (cond b (Line (point (r .x) (r .y)) (point (r .x1) (r .y1)))
+          (cond c (Rectangle (point (r .x) (r .y)) (point (r .x1) (r .y1)))
+          (cond d (Glyph (point (r .x) (r .y)) (r .number) (r .factor)) (Circle (point (r .x) (r .y)) (r .x1))))))
+      go true x b y c z d u = tt
+      go false x true y c z d u = tt
+      go false x false y true z d u = tt
+      go false x false y false z true u = factor-means r f (eqb-true _ 4 u)
+      go false x false y false z false u =
+          radius-means r g (else-circle r w (eqb-false _ 1 x) (eqb-false _ 2 y) (eqb-false _ 3 z) (eqb-false _ 4 u))
 
 abbrev pub AllInside : ℕ → ℕ → List Record → Type 0
 AllInside p h [] = Unit
@@ -81,28 +98,41 @@ module _ (p h k : ℕ) where
   both-in a b e = let t = and-both (pointB m a) (pointB m b) e in (in-plane a (t .0), in-plane b (t .1))
 
   -- a figure's own test
-  in-figure : (f : Figure) → Factored f → insideB m f ≡ true → Inside p h f
+  in-figure : (f : Figure) → Measured f → insideB m f ≡ true → Inside p h f
   in-figure (Dot a) w e = in-plane a e
   in-figure (Line a b) w e = both-in a b e
   in-figure (Rectangle a b) w e = both-in a b e
   in-figure (Glyph a n g) w e =
       let t = and-both (leb (a .x + 8 * g) (16 * p)) (leb (a .y + 8 * g) h) e in
       record { some = w .0; few = omega (arith, w .1); right = leb-true _ _ (t .0); low = leb-true _ _ (t .1) }
+  in-figure (Circle a r) w e =
+      let t = and-both (leb r (a .x) && leb r (a .y) && ltb (a .x + r) (16 * p)) (ltb (a .y + r) h) e in
+      let u = and-both (leb r (a .x) && leb r (a .y)) (ltb (a .x + r) (16 * p)) (t .0) in
+      let v = and-both (leb r (a .x)) (leb r (a .y)) (u .0) in
+      record {
+        some = w .0;
+        few = w .1;
+        left = leb-true _ _ (v .0);
+        top = leb-true _ _ (v .1);
+        right = ltb-true _ _ (u .1);
+        low = ltb-true _ _ (t .1);
+      }
 
   -- what the decoder gives is judged
   ok-decoded : (r : Raw) (g : ℕ) → Ok (judged m (decodedOf r g))
   unfolding decodedOf
   ok-decoded r g =
-      go (recordFormB r) refl (knownB r g) (factorB r) refl
+      go (recordFormB r) refl (knownB r g) (factorB r) refl (radiusB r) refl
     where
-      go : (a : Bool) → recordFormB r ≡ a → (b c : Bool) → factorB r ≡ c
-          → Ok (judged m (cond a (cond b (cond c (Good (record { op = operationOf (r .op); figure = figureOf r })) (Refused Factor))
-          (Refused GlyphNumber)) (Refused Form)))
-      go true e true true f =
-          cases Ok (insideB m (figureOf r)) (in-figure (figureOf r) (factored r (form-means r e) (factor-means r f))) (λ i. tt)
-      go true e true false f = tt
-      go true e false c f = tt
-      go false e b c f = tt
+      go : (a : Bool) → recordFormB r ≡ a → (b c : Bool) → factorB r ≡ c → (d : Bool) → radiusB r ≡ d
+          → Ok (judged m (cond a (cond b (cond c (cond d (Good (record { op = operationOf (r .op); figure = figureOf r })) (Refused Radius))
+          (Refused Factor)) (Refused GlyphNumber)) (Refused Form)))
+      go true e true true f true k =
+          cases Ok (insideB m (figureOf r)) (in-figure (figureOf r) (measured r (form-means r e) f k)) (λ i. tt)
+      go true e true true f false k = tt
+      go true e true false f d k = tt
+      go true e false c f d k = tt
+      go false e b c f d k = tt
 
   in-append : (a b : List Record) → AllInside p h a → AllInside p h b → AllInside p h (a ++ b)
   in-append [] b u v = v
@@ -129,7 +159,7 @@ module _ (p h k : ℕ) where
 
 -- ---- 19 is "a dot outside"
 -- the test of 19 judges the figure's own shape, dot by dot
-pub figure-judged : (p h k : ℕ) (f : Figure) → Factored f → Judges p h (insideB (roomOf p h k) f) (figureOn f)
+pub figure-judged : (p h k : ℕ) (f : Figure) → Measured f → Judges p h (insideB (roomOf p h k) f) (figureOn f)
 figure-judged p h k (Dot a) w = dot-judged p h (a .x) (a .y)
 figure-judged p h k (Line a b) w = line-judged p h (a .x) (a .y) (b .x) (b .y)
 figure-judged p h k (Rectangle a b) w = border-judged p h (a .x) (a .y) (b .x) (b .y)

@@ -4,6 +4,8 @@ pub mod SlopeLaws
 pub mod LineLaws
 pub mod RectangleLaws
 pub mod GlyphLaws
+pub mod ArcLaws
+pub mod CircleLaws
 pub mod InsideLaws
 pub mod SheetLaws
 pub mod Whole

@@ -17,7 +17,7 @@ use Rattle.geometry.proofs.BorderLaws.{border-ordered, flat-border}
 use Rattle.records.specs.declared.Point.{Point}
 use Rattle.records.specs.declared.Record.{Record}
 use Rattle.records.specs.declared.Figure.{Figure}
-use Rattle.records.specs.declared.Figure.the-variants.{Dot, Line, Rectangle, Glyph}
+use Rattle.records.specs.declared.Figure.the-variants.{Dot, Line, Rectangle, Glyph, Circle}
 use Rattle.entries.specs.Entries as entries
 use Rattle.entries.specs.Entries.{slopeOf, least, greatest, flatB, plain, figureEntries, entriesOf}
 use Rattle.sheets.specs.Slots.{translated}
@@ -26,10 +26,11 @@ use Rattle.sending.proofs.SendLaws.{Leads, leads-then, leads-nothing}
 use Rattle.demand.specs.Picture.{figureOn, figureInk, figureMade, figuresMade, figureDots, figuresDots}
 use Rattle.demand.proofs.InsideLaws.{Inside, AllInside}
 use Rattle.demand.proofs.HeadLaws.{acts-wdat}
-use Rattle.demand.proofs.DrawsLaws.{Held, Draws, leads-count, draws-as, dot-law}
+use Rattle.demand.proofs.DrawsLaws.{Held, Draws, leads-count, draws-as, draws-held, dot-law}
 use Rattle.demand.proofs.LineLaws.{line-law}
 use Rattle.demand.proofs.RectangleLaws.{rectangle-law}
 use Rattle.demand.proofs.GlyphLaws.{glyph-law}
+use Rattle.demand.proofs.CircleLaws.{circle-law}
 
 -- entries that change the picture so, with n units beside one for each entry; no other word, and the controller is as ready as before
 pub record Makes (p h : ℕ) (change : Picture → Picture) (s : State) (l : List ℕ) (n : ℕ) : Type 0 where
@@ -45,12 +46,7 @@ makes : {p h : ℕ} {op : Operation} {on : Shape} {ink : Picture} {s : State} {l
 makes held d = record {
   after = d .after;
   leads = d .leads;
-  held = record {
-    waits = d .waits;
-    pitch = d .pitch;
-    room = rw (d .drawn .long) (held .room);
-    lawful = rw (d .drawn .long) (held .lawful);
-  };
+  held = draws-held held d;
   long = d .drawn .long;
   dots = d .drawn .dots;
   words = d .drawn .words;
@@ -101,6 +97,7 @@ module _ (p h : ℕ) (sized : Sized p h) (t : List ℕ) (bytes : (i : ℕ) → g
     figure-law (Line a b) i = makes held (draws-as (λ x y. refl) (line-dots a b) (line-law p h sized s held op is a b (i .0) (i .1)))
     figure-law (Rectangle a b) i = makes held (rectangle a b (i .0) (i .1) (flatB a b) refl)
     figure-law (Glyph a n g) i = makes held (glyph-law p h sized s held op is t bytes a n g (i .some) (i .few) (i .right) (i .low))
+    figure-law (Circle a r) i = makes held (circle-law p h sized op a r (i .some) (i .few) (i .left) (i .top) (i .right) (i .low) s held is)
 
   -- ---- a record: WDAT sets the operation, then the figure
   record-law : (s : State) → Held p h s → (r : Record) → Inside p h (r .figure)

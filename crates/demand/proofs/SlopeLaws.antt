@@ -16,6 +16,7 @@ use Rattle.entries.specs.Entries.{distance, rightB, leftB, downB, upB, tallB, w
 use Rattle.entries.proofs.SlopeLaws.{other, octant, slopeBy, slope-by}
 use Rattle.registers.specs.declared.Drawing.{Drawing}
 use Rattle.figures.specs.Figure.{negative, axisOf, diagonalOf, lineDirection, errorAfter, sideOf, directionAt, runningD}
+use Rattle.circling.proofs.AxisLaws.{same-axis, same-diagonal}
 use Rattle.sending.proofs.DrawLaws.{runningAt, stepAt}
 
 -- ---- DIR, N and m
@@ -76,12 +77,6 @@ dir-lt false false true = omega arith
 dir-lt false false false = omega arith
 
 -- ---- the moves
-same-axis : (dir : ℕ) → dir < 8 → axisOf dir ≡ octants.axisOf dir
-same-axis dir h = eqb→eq _ _ (below (λ j. eqb (axisOf j) (octants.axisOf j)) 8 tt dir h)
-
-same-diagonal : (dir : ℕ) → dir < 8 → diagonalOf dir ≡ octants.diagonalOf dir
-same-diagonal dir h = eqb→eq _ _ (below (λ j. eqb (diagonalOf j) (octants.diagonalOf j)) 8 tt dir h)
-
 module _ (f : Drawing) (n m : ℕ) (line : f .kind ≡ 1) (d : f .d ≡ (2 * m + 16384 - n) % 16384) (d1 : f .d1 ≡ 2 * m)
     (d2 : f .d2 ≡ (2 * m + 16384 - 2 * n) % 16384) where
   on : (t : Bool) (r : Ruled) → cond t ((r .d + f .d1) % 16384) ((r .d + f .d2) % 16384)

@@ -10,10 +10,10 @@ use lib.ListN.{length, getD, set, take, drop, drop-of-length-le}
 use lib.Seq.{drop-cons, length-sets, sets-eq}
 use Rattle.records.specs.declared.Record.{Record}
 use Rattle.records.specs.declared.Figure.{Figure}
-use Rattle.records.specs.declared.Figure.the-variants.{Dot, Line, Rectangle, Glyph}
+use Rattle.records.specs.declared.Figure.the-variants.{Dot, Line, Rectangle, Glyph, Circle}
 use Rattle.dots.specs.Operation.{operationNumber}
 use Rattle.entries.specs.Entries.{placed, plain, figureSize, sizeOf, figureEntries, entriesOf, dotEntries, lineEntries}
-use Rattle.entries.specs.Entries.{rectangleEntries, glyphEntries}
+use Rattle.entries.specs.Entries.{rectangleEntries, glyphEntries, arcEntries, arcsFrom, circleEntries}
 
 -- ---- the loop of `put`
 module _ (o : List ℕ) (at : ℕ) (e : List ℕ) where
@@ -49,11 +49,12 @@ placed-is o at e h = sets-eq e o at h
 
 -- ---- a record's entries
 sizes : (t : List ℕ) (p : ℕ) (f : Figure) → length (figureEntries t p f) ≡ figureSize f
-unfolding dotEntries lineEntries rectangleEntries glyphEntries
+unfolding dotEntries lineEntries rectangleEntries glyphEntries arcEntries arcsFrom circleEntries
 sizes t p (Dot a) = refl
 sizes t p (Line a b) = refl
 sizes t p (Rectangle a b) = refl
 sizes t p (Glyph a n g) = refl
+sizes t p (Circle c r) = refl
 
 pub entries-size : (t : List ℕ) (p : ℕ) (r : Record) → length (entriesOf t p r) ≡ sizeOf r
 unfolding entriesOf sizeOf

@@ -1,5 +1,5 @@
--- 01, Drawing sheets, Translation: the entries for one figure. "16-bit entries, commands are the byte + 256".
-use Prim.Native.Nat.{ℕ, suc, _+_, _-_, _*_, _/_, _%_, min, max}
+-- 01, Drawing sheets, Translation, and 02's M-100: the entries for one figure. "16-bit entries, commands are the byte + 256".
+use Prim.Native.Nat.{ℕ, zero, suc, _+_, _-_, _*_, _/_, _%_, min, max}
 use mathlib.Core.List.{List, [], _∷_, _++_}
 use mathlib.Core.Bool.{Bool, false, cond, _&&_, _||_}
 use lib.Dec.{eqb, leb}
@@ -7,10 +7,11 @@ use lib.ListN.{getD}
 use lib.Seq.{sets}
 use Rattle.dots.specs.declared.Operation.{Operation}
 use Rattle.dots.specs.Operation.{operationNumber}
+use Rattle.circles.specs.Circle.{arcDm, arcDc, endX, endY}
 use Rattle.records.specs.declared.Point.{Point}
 use Rattle.records.specs.declared.Record.{Record}
 use Rattle.records.specs.declared.Figure.{Figure}
-use Rattle.records.specs.declared.Figure.the-variants.{Dot, Line, Rectangle, Glyph}
+use Rattle.records.specs.declared.Figure.the-variants.{Dot, Line, Rectangle, Glyph, Circle}
 use Rattle.entries.specs.declared.Slope.{Slope}
 
 -- "commands are the byte + 256": "WDAT 20 + 8·type + operation" of a word, the operation to be added; "ZOOM 46", "PITCH 47",
@@ -156,6 +157,7 @@ plain (Dot a) = Dot a
 plain (Line a b) = Line a b
 plain (Rectangle a b) = cond (flatB a b) (Line (least a b) (greatest a b)) (Rectangle (least a b) (greatest a b))
 plain (Glyph a n g) = Glyph a n g
+plain (Circle c r) = Circle c r
 
 -- ---- glyphs
 
@@ -174,6 +176,31 @@ unfoldable pub glyphEntries : List ℕ → ℕ → Point → ℕ → ℕ → Lis
 glyphEntries t p a n g =
     zoomCode ∷ (g - 1) ∷ cursorEntries (eadOf p (foot a g)) (a .x) ++ pramCode ∷ glyphRows t n ++ figsCode ∷ 0x12 ∷ both 7 ++ gchrdCode ∷ []
 
+-- ---- circles (02, M-100)
+
+-- where the arc of a DIR starts: at the end of an axis from which its axis move is the tangent
+abbrev pub arcStart : Point → ℕ → ℕ → Point
+arcStart c r dir = record { x = endX (c .x) r dir; y = endY (c .y) r dir }
+
+-- FIGS of an arc, "5 A, 2-0 DIR", and both bytes of DC, D, D2, D1, DM: "With D = r - 1, D2 = 2(r - 1), D1 = -1 this is the midpoint
+-- circle"; -1 is FF 3F in 14 bits
+abbrev pub arcFigs : ℕ → ℕ → ℕ → ℕ → List ℕ
+arcFigs dir dc r dm = figsCode ∷ (0x20 + dir) ∷ both dc ++ both (r - 1) ++ both (2 * (r - 1)) ++ 0xFF ∷ 0x3F ∷ both dm
+
+-- "each sent as a line is, with DC the largest i, and DM too: even ones have DM 0, odd ones DM 1 and a DC one less where the octants'
+-- last dots coincide on the diagonal"
+unfoldable pub arcEntries : ℕ → Point → ℕ → ℕ → List ℕ
+arcEntries p c r dir = headEntries p (arcStart c r dir) ++ arcFigs dir (arcDc r dir) r (arcDm dir) ++ figdCode ∷ []
+
+-- n arcs in order of DIR, from dir on
+unfoldable pub arcsFrom : ℕ → Point → ℕ → ℕ → ℕ → List ℕ
+arcsFrom p c r zero dir = []
+arcsFrom p c r (suc n) dir = arcEntries p c r dir ++ arcsFrom p c r n (suc dir)
+
+-- "after one WDAT its eight arcs go in order of DIR"
+unfoldable pub circleEntries : ℕ → Point → ℕ → List ℕ
+circleEntries p c r = arcsFrom p c r 8 0
+
 -- ---- a figure, a record
 
 abbrev pub figureEntries : List ℕ → ℕ → Figure → List ℕ
@@ -181,6 +208,7 @@ figureEntries t p (Dot a) = dotEntries p a
 figureEntries t p (Line a b) = lineEntries p a b
 figureEntries t p (Rectangle a b) = rectangleEntries p a (distance (a .x) (b .x)) (distance (a .y) (b .y))
 figureEntries t p (Glyph a n g) = glyphEntries t p a n g
+figureEntries t p (Circle c r) = circleEntries p c r
 
 -- "per figure WDAT word with the operation, then" the figure's own; "WDAT 20 + 8·type + operation"
 unfoldable pub entriesOf : List ℕ → ℕ → Record → List ℕ
@@ -192,6 +220,7 @@ figureSize (Dot a) = 10
 figureSize (Line a b) = 18
 figureSize (Rectangle a b) = 20
 figureSize (Glyph a n g) = 20
+figureSize (Circle c r) = 160
 
 unfoldable pub sizeOf : Record → ℕ
 sizeOf r = suc (figureSize (plain (r .figure)))

@@ -4,11 +4,16 @@ use records::Figure;
 use records::Point;
 use records::Record;
 ghost use mathlib.Core.Path.{_≡_};
-ghost use Prim.Native.Nat.{_+_, _*_, _/_, _%_, _-_, _<_, min, max};
+ghost use mathlib.Core.Bool.{cond};
+ghost use Prim.Native.Nat.{_+_, _*_, _/_, _%_, _-_, _<_};
 ghost use lib.ListN.{getD, set};
 ghost use Rattle.dots.specs.Operation.{operationNumber};
-ghost use Rattle.entries.specs.Entries.{wdatCode, minus14, distance, dirOf, slopeOf, dotEntries, lineEntries, rectangleEntries};
-ghost use Rattle.entries.specs.Entries.{glyphEntries, least, greatest, plain, sizeOf, figureEntries, entriesOf, placed};
+ghost use Rattle.circles.specs.Circle.{arcDc, endX, endY};
+ghost use Rattle.entries.specs.Entries.{wdatCode, minus14, dotEntries, lineEntries, rectangleEntries};
+ghost use Rattle.entries.specs.Entries.{glyphEntries, arcEntries, circleEntries};
+ghost use Rattle.entries.specs.Entries.{least, greatest, plain, sizeOf, figureEntries, entriesOf, placed};
+
+mod way;
 
 // The commands of a translation, each its byte + 256: WDAT of a word with the operation to be added, PRAM at address 8.
 const WDAT: u16 = 0x120;
@@ -40,11 +45,11 @@ fn wdat(op: Operation) -> u16
 }
 
 // The word of the dot (x, y).
-fn word_of(p: u8, x: u16, y: u32) -> u32
+fn word_of(p: u8, x: u32, y: u32) -> u32
     requires { ⌜ y < 131072 ⌝ }
     ensures { λ r. ⌜ r ≡ y * p + x / 16 ⌝ }
 {
-    y * p as u32 + x as u32 / 16
+    y * p as u32 + x / 16
 }
 
 // x - n in 14 bits.
@@ -54,88 +59,23 @@ fn minus(x: u32, n: u32) -> u32
     (x % 16384 + 16384 - n % 16384) % 16384
 }
 
-fn apart(a: u16, b: u16) -> u16
-    ensures { λ r. ⌜ r ≡ distance a b ⌝ }
-{
-    if a < b { b - a } else { a - b }
-}
-
-fn smaller(a: u16, b: u16) -> u16
-    ensures { λ r. ⌜ r ≡ min a b ⌝ }
-{
-    if a < b { a } else { b }
-}
-
-fn larger(a: u16, b: u16) -> u16
-    ensures { λ r. ⌜ r ≡ max a b ⌝ }
-{
-    if a < b { b } else { a }
-}
-
-// The smallest direction that fits.
-fn direction(a: Point, b: Point) -> u8
-    ensures { λ r. ⌜ r ≡ dirOf a b ⌝ }
-{
-    let x = apart(a.x, b.x);
-    let y = apart(a.y, b.y);
-    let right = a.x <= b.x;
-    let left = b.x <= a.x;
-    let down = a.y <= b.y;
-    let up = b.y <= a.y;
-    let tall = x <= y;
-    let wide = y <= x;
-    if right & down & tall {
-        return 0;
-    }
-    if right & down & wide {
-        return 1;
-    }
-    if right & up & wide {
-        return 2;
-    }
-    if right & up & tall {
-        return 3;
-    }
-    if left & up & tall {
-        return 4;
-    }
-    if left & up & wide {
-        return 5;
-    }
-    if left & down & wide {
-        return 6;
-    }
-    7
-}
-
-fn slope_of(a: Point, b: Point) -> Slope
-    ensures { λ r. ⌜ r ≡ slopeOf a b ⌝ }
-{
-    let x = apart(a.x, b.x);
-    let y = apart(a.y, b.y);
-    Slope {
-        dir: direction(a, b),
-        major: larger(x, y),
-        minor: smaller(x, y),
-    }
-}
-
 // CURS's third byte: the dot address and EAD's top.
-fn third(e: u32, x: u16) -> u16
+fn third(e: u32, x: u32) -> u16
     ensures { λ r. ⌜ r ≡ x % 16 * 16 + e / 65536 % 4 ⌝ }
 {
-    x % 16 * 16 + (e / 65536 % 4) as u16
+    (x % 16 * 16 + e / 65536 % 4) as u16
 }
 
 fn dot_entries(p: u8, a: Point) -> [u16; 10]
     ensures { λ r. ⌜ r ≡ dotEntries p a ⌝ }
 {
-    let e = word_of(p, a.x, a.y as u32);
+    let x = a.x as u32;
+    let e = word_of(p, x, a.y as u32);
     [
         CURS,
         (e % 256) as u16,
         (e / 256 % 256) as u16,
-        third(e, a.x),
+        third(e, x),
         PRAM_8,
         0xFF,
         0xFF,
@@ -148,8 +88,9 @@ fn dot_entries(p: u8, a: Point) -> [u16; 10]
 fn line_entries(p: u8, a: Point, b: Point) -> [u16; 18]
     ensures { λ r. ⌜ r ≡ lineEntries p a b ⌝ }
 {
-    let e = word_of(p, a.x, a.y as u32);
-    let s = slope_of(a, b);
+    let x = a.x as u32;
+    let e = word_of(p, x, a.y as u32);
+    let s = way::slope_of(a, b);
     let n = s.major as u32;
     let m = s.minor as u32;
     let d = minus(2 * m, n);
@@ -158,7 +99,7 @@ fn line_entries(p: u8, a: Point, b: Point) -> [u16; 18]
         CURS,
         (e % 256) as u16,
         (e / 256 % 256) as u16,
-        third(e, a.x),
+        third(e, x),
         PRAM_8,
         0xFF,
         0xFF,
@@ -179,12 +120,13 @@ fn line_entries(p: u8, a: Point, b: Point) -> [u16; 18]
 fn rectangle_entries(p: u8, a: Point, w: u16, h: u16) -> [u16; 20]
     ensures { λ r. ⌜ r ≡ rectangleEntries p a w h ⌝ }
 {
-    let e = word_of(p, a.x, a.y as u32);
+    let x = a.x as u32;
+    let e = word_of(p, x, a.y as u32);
     [
         CURS,
         (e % 256) as u16,
         (e / 256 % 256) as u16,
-        third(e, a.x),
+        third(e, x),
         PRAM_8,
         0xFF,
         0xFF,
@@ -217,25 +159,26 @@ fn row(t: &[u8], i: usize) -> u16
     wide(records::byte_at(t, i))
 }
 
-// x - 1, and 0 for 0.
-fn less(x: u32) -> u32
-    ensures { λ r. ⌜ r ≡ x - 1 ⌝ }
+// x - n, and 0 where n is the larger.
+fn less(x: u32, n: u32) -> u32
+    ensures { λ r. ⌜ r ≡ x - n ⌝ }
 {
-    if x == 0 { 0 } else { x - 1 }
+    if x < n { 0 } else { x - n }
 }
 
 fn glyph_entries(t: &[u8], p: u8, a: Point, n: u8, g: u8) -> [u16; 20]
     ensures { λ r. ⌜ r ≡ glyphEntries (now (t .entry)) p a n g ⌝ }
 {
-    let e = word_of(p, a.x, a.y as u32 + less(8 * g as u32));
+    let x = a.x as u32;
+    let e = word_of(p, x, a.y as u32 + less(8 * g as u32, 1));
     let k = 8 * n as usize;
     [
         ZOOM,
-        less(g as u32) as u16,
+        less(g as u32, 1) as u16,
         CURS,
         (e % 256) as u16,
         (e / 256 % 256) as u16,
-        third(e, a.x),
+        third(e, x),
         PRAM_8,
         row(t, k),
         row(t, k + 1),
@@ -253,12 +196,80 @@ fn glyph_entries(t: &[u8], p: u8, a: Point, n: u8, g: u8) -> [u16; 20]
     ]
 }
 
+// DC of an arc: the largest i, and one less for an odd arc where the last dots coincide.
+fn dc_of(largest: u16, coincide: bool, dir: u16) -> u16
+    ensures { λ q. ⌜ q ≡ largest - cond coincide (dir % 2) 0 ⌝ }
+{
+    if coincide {
+        return less(largest as u32, (dir % 2) as u32) as u16;
+    }
+    largest
+}
+
+// Where the arc of a DIR starts, across.
+fn end_x(x: u16, r: u16, dir: u16) -> u32
+    requires { ⌜ dir < 8 ⌝ }
+    ensures { λ q. ⌜ q ≡ endX x r dir ⌝ }
+{
+    let middle = x as u32;
+    let left = less(middle, r as u32);
+    let right = middle + r as u32;
+    let ends = [left, middle, middle, left, right, middle, middle, right];
+    ends[dir as usize]
+}
+
+// .. and down.
+fn end_y(y: u16, r: u16, dir: u16) -> u32
+    requires { ⌜ dir < 8 ⌝ }
+    ensures { λ q. ⌜ q ≡ endY y r dir ⌝ }
+{
+    let middle = y as u32;
+    let top = less(middle, r as u32);
+    let bottom = middle + r as u32;
+    let ends = [middle, top, bottom, middle, middle, bottom, top, middle];
+    ends[dir as usize]
+}
+
+// The arc of a DIR; dc is its DC.
+fn arc_entries(p: u8, c: Point, r: u16, dir: u16, dc: u16) -> [u16; 20]
+    requires { ⌜ dir < 8 ⌝ }
+    requires { ⌜ dc ≡ arcDc r dir ⌝ }
+    ensures { λ q. ⌜ q ≡ arcEntries p c r dir ⌝ }
+{
+    let x = end_x(c.x, r, dir);
+    let e = word_of(p, x, end_y(c.y, r, dir));
+    let d = less(r as u32, 1);
+    let dm = dir % 2;
+    [
+        CURS,
+        (e % 256) as u16,
+        (e / 256 % 256) as u16,
+        third(e, x),
+        PRAM_8,
+        0xFF,
+        0xFF,
+        FIGS,
+        0x20 + dir,
+        dc % 256,
+        dc / 256 % 256,
+        (d % 256) as u16,
+        (d / 256 % 256) as u16,
+        (2 * d % 256) as u16,
+        (2 * d / 256 % 256) as u16,
+        0xFF,
+        0x3F,
+        dm % 256,
+        dm / 256 % 256,
+        FIGD,
+    ]
+}
+
 fn least_of(a: Point, b: Point) -> Point
     ensures { λ r. ⌜ r ≡ least a b ⌝ }
 {
     Point {
-        x: smaller(a.x, b.x),
-        y: smaller(a.y, b.y),
+        x: way::smaller(a.x, b.x),
+        y: way::smaller(a.y, b.y),
     }
 }
 
@@ -266,8 +277,8 @@ fn greatest_of(a: Point, b: Point) -> Point
     ensures { λ r. ⌜ r ≡ greatest a b ⌝ }
 {
     Point {
-        x: larger(a.x, b.x),
-        y: larger(a.y, b.y),
+        x: way::larger(a.x, b.x),
+        y: way::larger(a.y, b.y),
     }
 }
 
@@ -291,6 +302,10 @@ fn plain_of(f: Figure) -> Figure
             number: number,
             factor: factor,
         },
+        Figure::Circle { centre, radius } => Figure::Circle {
+            centre: centre,
+            radius: radius,
+        },
     }
 }
 
@@ -308,6 +323,10 @@ pub fn size_of(r: Record) -> u32
             number: _,
             factor: _,
         } => 21,
+        Figure::Circle {
+            centre: _,
+            radius: _,
+        } => 161,
     }
 }
 
@@ -322,7 +341,7 @@ fn store(out: &mut [u16], at: usize, x: u16)
 
 // The entries e go into out from at on, as far as there is room.
 fn put_from(out: &mut [u16], at: usize, e: &[u16])
-    requires { ⌜ at < 4294967297 ⌝ }
+    requires { ⌜ at < 8589934592 ⌝ }
     ensures { λ _. ⌜ now (out .exit) ≡ placed (now (out .entry)) at (now (e .entry)) ⌝ }
 {
     let mut i: usize = 0;
@@ -338,6 +357,21 @@ pub fn put(out: &mut [u16], at: u32, e: &[u16])
     put_from(out, at as usize, e);
 }
 
+// The eight arcs of a circle, in order of DIR, go into out from at on, as far as there is room.
+fn put_circle(out: &mut [u16], at: usize, p: u8, c: Point, r: u16)
+    requires { ⌜ at < 4294967297 ⌝ }
+    ensures { λ _. ⌜ now (out .exit) ≡ placed (now (out .entry)) at (circleEntries p c r) ⌝ }
+{
+    let largest = circles::largest_of(r);
+    let coincide = circles::coincides(r);
+    let mut dir: u16 = 0;
+    while dir < 8 {
+        let dc = dc_of(largest, coincide, dir);
+        put_from(out, at + 20 * dir as usize, &arc_entries(p, c, r, dir, dc));
+        dir += 1;
+    }
+}
+
 // The entries of a figure that is plain go into out from at on, as far as there is room.
 fn put_figure(out: &mut [u16], at: usize, t: &[u8], p: u8, f: Figure)
     requires { ⌜ at < 4294967297 ⌝ }
@@ -349,13 +383,14 @@ fn put_figure(out: &mut [u16], at: usize, t: &[u8], p: u8, f: Figure)
         Figure::Rectangle(a, b) => put_from(
             out,
             at,
-            &rectangle_entries(p, a, apart(a.x, b.x), apart(a.y, b.y)),
+            &rectangle_entries(p, a, way::apart(a.x, b.x), way::apart(a.y, b.y)),
         ),
         Figure::Glyph {
             at: a,
             number,
             factor,
         } => put_from(out, at, &glyph_entries(t, p, a, number, factor)),
+        Figure::Circle { centre, radius } => put_circle(out, at, p, centre, radius),
     }
 }
 

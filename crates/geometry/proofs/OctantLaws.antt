@@ -47,19 +47,19 @@ abbrev pub diagonalOf : ℕ → ℕ
 diagonalOf dir = dir + 1 - dir % 2
 
 -- the change of a coordinate by one dot, one too large
-abbrev change : Bool → ℕ
+abbrev pub change : Bool → ℕ
 change true = 2
 change false = 0
 
-record Ways (across right down : Bool) (axis diagonal : ℕ) : Type 0 where
-  axis-lt : axis < 8
-  diagonal-lt : diagonal < 8
-  axis-x : dx axis ≡ cond across (change right) 1
-  axis-y : dy axis ≡ cond across 1 (change down)
-  diagonal-x : dx diagonal ≡ change right
-  diagonal-y : dy diagonal ≡ change down
+pub record Ways (across right down : Bool) (axis diagonal : ℕ) : Type 0 where
+  pub axis-lt : axis < 8
+  pub diagonal-lt : diagonal < 8
+  pub axis-x : dx axis ≡ cond across (change right) 1
+  pub axis-y : dy axis ≡ cond across 1 (change down)
+  pub diagonal-x : dx diagonal ≡ change right
+  pub diagonal-y : dy diagonal ≡ change down
 
-ways : (across right down : Bool) → Ways across right down (axisOf (dirOf across right down)) (diagonalOf (dirOf across right down))
+pub ways : (across right down : Bool) → Ways across right down (axisOf (dirOf across right down)) (diagonalOf (dirOf across right down))
 ways true true true =
     record { axis-lt = omega arith; diagonal-lt = omega arith; axis-x = refl; axis-y = refl; diagonal-x = refl; diagonal-y = refl }
 ways true true false =

@@ -1,6 +1,7 @@
 -- When a shape lies in the plane, dot by dot: a line and a border do exactly if their two corners do, a square of 8g by 8g dots exactly if
 -- it ends within the plane. True because no dot of a line or border lies past both corners in either coordinate, and the corners are
--- dots of it; and because a square's last dot is its bottom right one.
+-- dots of it; and because a square's last dot is its bottom right one. A figure is given with each k that it may be moved by, right and
+-- down, so that dots left of the plane or above it count too.
 use mathlib.Core.Path.{_≡_, refl, sym, ap₂, subst, _∙_}
 use mathlib.Core.Bool.{Bool, true, false, cond, _&&_, false≢true}
 use Prim.Native.Nat.{ℕ, zero, suc, _+_, _-_, _*_, _≤_, _<_, min, max}
@@ -9,31 +10,41 @@ use native.Mathlib.Omega.{arith}
 use lib.Arith.{digits-div}
 use lib.Dec.{eqb, ltb, leb}
 use borrow.Author.Tests.{ltb-true, lt-ltb, leb-true, leb-false, le-leb}
-use Rattle.geometry.specs.Plane.{InPlane, Shape, distance, minor, toward, lineX, lineY, dotOn, lineOn, borderOn, squareOn}
+use Rattle.geometry.specs.Plane.{InPlane, InMoved, Shape, distance, minor, toward, lineX, lineY, dotOn, lineOn, borderOn, squareOn}
 use Rattle.geometry.proofs.TestLaws.{and-both, some-found, some-at, pair-same, same-pair}
 use Rattle.geometry.proofs.ErrorLaws.{minor-start, minor-le}
 use Rattle.geometry.proofs.BorderLaws.{Rim, on-left, on-right, border-edge, edge-border}
 
--- a dot of the shape lies outside the plane
-pub record Outside (p h : ℕ) (on : Shape) : Type 0 where
+-- a dot of the figure lies outside the plane, both moved by a k
+pub record Outside (p h : ℕ) (on : ℕ → Shape) : Type 0 where
+  pub moved : ℕ
   pub x : ℕ
   pub y : ℕ
-  pub dot : on x y ≡ true
-  pub out : InPlane p h x y → ⊥
+  pub dot : on moved x y ≡ true
+  pub out : InMoved moved p h x y → ⊥
 
--- a test is true where every dot of the shape lies in the plane, and false where one lies outside
-pub record Judges (p h : ℕ) (test : Bool) (on : Shape) : Type 0 where
-  pub inside : test ≡ true → (x y : ℕ) → on x y ≡ true → InPlane p h x y
+-- a test is true where every dot of the figure lies in the plane, and false where one lies outside
+pub record Judges (p h : ℕ) (test : Bool) (on : ℕ → Shape) : Type 0 where
+  pub inside : test ≡ true → (k x y : ℕ) → on k x y ≡ true → InMoved k p h x y
   pub outside : test ≡ false → Outside p h on
 
 -- so it is true only there, and false only there
-pub judges-only : {p h : ℕ} {test : Bool} {on : Shape} → Judges p h test on → ((x y : ℕ) → on x y ≡ true → InPlane p h x y) → test ≡ true
+pub judges-only : {p h : ℕ} {test : Bool} {on : ℕ → Shape} → Judges p h test on
+    → ((k x y : ℕ) → on k x y ≡ true → InMoved k p h x y) → test ≡ true
 judges-only {test = true} j all = refl
-judges-only {test = false} j all = let o = j .outside refl in absurd (o .out (all (o .x) (o .y) (o .dot)))
+judges-only {test = false} j all = let o = j .outside refl in absurd (o .out (all (o .moved) (o .x) (o .y) (o .dot)))
 
-pub outside-only : {p h : ℕ} {test : Bool} {on : Shape} → Judges p h test on → Outside p h on → test ≡ false
-outside-only {test = true} j o = absurd (o .out (j .inside refl (o .x) (o .y) (o .dot)))
+pub outside-only : {p h : ℕ} {test : Bool} {on : ℕ → Shape} → Judges p h test on → Outside p h on → test ≡ false
+outside-only {test = true} j o = absurd (o .out (j .inside refl (o .moved) (o .x) (o .y) (o .dot)))
 outside-only {test = false} j o = refl
+
+-- a dot of the plane, both moved
+moved-in : {p h x y : ℕ} (k : ℕ) → InPlane p h x y → InMoved k p h (x + k) (y + k)
+moved-in k i =
+    record { west = omega arith; north = omega arith; inside = record { column = omega (arith, i .column); row = omega (arith, i .row) } }
+
+in-moved : {p h x y : ℕ} (k : ℕ) → InMoved k p h (x + k) (y + k) → InPlane p h x y
+in-moved k i = record { column = omega (arith, i .inside .column); row = omega (arith, i .inside .row) }
 
 -- ---- a dot's test
 abbrev inB : ℕ → ℕ → ℕ → ℕ → Bool
@@ -47,16 +58,23 @@ in-plane p h x y e =
 not-in : (p h x y : ℕ) → inB p h x y ≡ false → InPlane p h x y → ⊥
 not-in p h x y e i = false≢true (sym e ∙ ap₂ _&&_ (lt-ltb x (16 * p) (i .column)) (lt-ltb y h (i .row)))
 
-pub dot-judged : (p h x y : ℕ) → Judges p h (inB p h x y) (dotOn x y)
+pub dot-judged : (p h x y : ℕ) → Judges p h (inB p h x y) (λ k. dotOn (x + k) (y + k))
 dot-judged p h x y =
     record {
-      inside = λ e u v on. let s = pair-same u x v y on in rw (s .0, s .1) (in-plane p h x y e);
-      outside = λ e. record { x = x; y = y; dot = same-pair x x y y refl refl; out = not-in p h x y e };
+      inside = λ e k u v on. let s = pair-same u (x + k) v (y + k) on in rw (s .0, s .1) (moved-in k (in-plane p h x y e));
+      outside = λ e. record {
+        moved = 0;
+        x = x + 0;
+        y = y + 0;
+        dot = same-pair (x + 0) (x + 0) (y + 0) (y + 0) refl refl;
+        out = λ i. not-in p h x y e (in-moved 0 i);
+      };
     }
 
--- a shape that has two dots and lies between them
-two-corners : (p h x0 y0 x1 y1 : ℕ) (on : Shape) → on x0 y0 ≡ true → on x1 y1 ≡ true
-    → (InPlane p h x0 y0 → InPlane p h x1 y1 → (x y : ℕ) → on x y ≡ true → InPlane p h x y)
+-- a figure that has two dots and lies between them
+two-corners : (p h x0 y0 x1 y1 : ℕ) (on : ℕ → Shape)
+    → ((k : ℕ) → on k (x0 + k) (y0 + k) ≡ true) → ((k : ℕ) → on k (x1 + k) (y1 + k) ≡ true)
+    → (InPlane p h x0 y0 → InPlane p h x1 y1 → (k x y : ℕ) → on k x y ≡ true → InMoved k p h x y)
     → Judges p h (inB p h x0 y0 && inB p h x1 y1) on
 two-corners p h x0 y0 x1 y1 on first last between =
     record {
@@ -65,9 +83,12 @@ two-corners p h x0 y0 x1 y1 on first last between =
       outside = go (inB p h x0 y0) (inB p h x1 y1) refl refl;
     }
   where
+    corner : (x y : ℕ) → on 0 (x + 0) (y + 0) ≡ true → inB p h x y ≡ false → Outside p h on
+    corner x y d e = record { moved = 0; x = x + 0; y = y + 0; dot = d; out = λ i. not-in p h x y e (in-moved 0 i) }
+
     go : (a b : Bool) → inB p h x0 y0 ≡ a → inB p h x1 y1 ≡ b → (a && b) ≡ false → Outside p h on
-    go true b e f k = record { x = x1; y = y1; dot = last; out = not-in p h x1 y1 (f ∙ k) }
-    go false b e f k = record { x = x0; y = y0; dot = first; out = not-in p h x0 y0 e }
+    go true b e f k = corner x1 y1 (last 0) (f ∙ k)
+    go false b e f k = corner x0 y0 (first 0) e
 
 -- ---- lines
 toward-lt : (a b k w : ℕ) → k ≤ distance a b → a < w → b < w → toward a b k < w
@@ -77,6 +98,14 @@ toward-lt a b k w l f g = go (leb a b) refl
     go : (t : Bool) → leb a b ≡ t → cond t (a + k) (a - k) < w
     go true e = omega (arith, leb-true a b e)
     go false e = omega arith
+
+toward-ge : (a b k w : ℕ) → k ≤ distance a b → w ≤ a → w ≤ b → w ≤ toward a b k
+unfolding toward
+toward-ge a b k w l f g = go (leb a b) refl
+  where
+    go : (t : Bool) → leb a b ≡ t → w ≤ cond t (a + k) (a - k)
+    go true e = omega arith
+    go false e = omega (arith, leb-false a b e)
 
 toward-start : (a b k : ℕ) → k ≡ 0 → toward a b k ≡ a
 unfolding toward
@@ -151,21 +180,31 @@ module _ (x0 y0 x1 y1 : ℕ) where
       (same-pair _ _ _ _ (sym (toward-end x0 x1 _ (all-x dx dy (leb dy dx) refl)))
       (sym (toward-end y0 y1 _ (all-y dx dy (leb dy dx) refl))))
 
-  line-between : (p h : ℕ) → InPlane p h x0 y0 → InPlane p h x1 y1 → (x y : ℕ) → lineOn x0 y0 x1 y1 x y ≡ true → InPlane p h x y
+  -- no dot lies before both ends, nor past both
+  line-between : (low right bottom : ℕ) → low ≤ x0 → low ≤ x1 → low ≤ y0 → low ≤ y1 → x0 < right → x1 < right → y0 < bottom → y1 < bottom
+      → (x y : ℕ) → lineOn x0 y0 x1 y1 x y ≡ true → (low ≤ x) × (low ≤ y) × (x < right) × (y < bottom)
   unfolding lineOn
-  line-between p h a b x y e =
-      let r = some-found (λ i. eqb x (lineX x0 x1 dx dy i) && eqb y (lineY y0 y1 dx dy i)) (max dx dy) e in
+  line-between low right bottom a b c d e f g k x y on =
+      let r = some-found (λ i. eqb x (lineX x0 x1 dx dy i) && eqb y (lineY y0 y1 dx dy i)) (max dx dy) on in
       let s = pair-same x (lineX x0 x1 dx dy (r .0)) y (lineY y0 y1 dx dy (r .0)) (r .2) in
-      record {
-        column = subst (λ (u : ℕ). u < 16 * p) (sym (s .0))
-            (toward-lt x0 x1 _ (16 * p) (far-x dx dy (leb dy dx) refl (r .0) (r .1)) (a .column) (b .column));
-        row = subst (λ (v : ℕ). v < h) (sym (s .1))
-            (toward-lt y0 y1 _ h (far-y dx dy (leb dy dx) refl (r .0) (r .1)) (a .row) (b .row));
-      }
+      let u = far-x dx dy (leb dy dx) refl (r .0) (r .1) in
+      let v = far-y dx dy (leb dy dx) refl (r .0) (r .1) in
+      (
+        subst (λ (z : ℕ). low ≤ z) (sym (s .0)) (toward-ge x0 x1 _ low u a b),
+        subst (λ (z : ℕ). low ≤ z) (sym (s .1)) (toward-ge y0 y1 _ low v c d),
+        subst (λ (z : ℕ). z < right) (sym (s .0)) (toward-lt x0 x1 _ right u e f),
+        subst (λ (z : ℕ). z < bottom) (sym (s .1)) (toward-lt y0 y1 _ bottom v g k),
+      )
 
-pub line-judged : (p h x0 y0 x1 y1 : ℕ) → Judges p h (inB p h x0 y0 && inB p h x1 y1) (lineOn x0 y0 x1 y1)
+pub line-judged : (p h x0 y0 x1 y1 : ℕ)
+    → Judges p h (inB p h x0 y0 && inB p h x1 y1) (λ k. lineOn (x0 + k) (y0 + k) (x1 + k) (y1 + k))
 line-judged p h x0 y0 x1 y1 =
-    two-corners p h x0 y0 x1 y1 (lineOn x0 y0 x1 y1) (line-first x0 y0 x1 y1) (line-last x0 y0 x1 y1) (line-between x0 y0 x1 y1 p h)
+    two-corners p h x0 y0 x1 y1 (λ k. lineOn (x0 + k) (y0 + k) (x1 + k) (y1 + k))
+    (λ k. line-first (x0 + k) (y0 + k) (x1 + k) (y1 + k)) (λ k. line-last (x0 + k) (y0 + k) (x1 + k) (y1 + k))
+    (λ a b k x y on.
+    let t = line-between (x0 + k) (y0 + k) (x1 + k) (y1 + k) k (16 * p + k) (h + k) (omega arith) (omega arith) (omega arith) (omega arith)
+    (omega (arith, a .column)) (omega (arith, b .column)) (omega (arith, a .row)) (omega (arith, b .row)) x y on in
+    record { west = t .0; north = t .1; inside = record { column = omega (arith, t .0, t .2); row = omega (arith, t .1, t .3) } })
 
 -- ---- borders
 module _ (x0 y0 x1 y1 : ℕ) where
@@ -190,15 +229,21 @@ module _ (x0 y0 x1 y1 : ℕ) where
       edge-border x0 y0 x1 y1 _ _ _ _ refl refl refl refl x1 y1
       (record { west = omega arith; east = omega arith; north = omega arith; south = omega arith; rim = last-side (leb x0 x1) refl })
 
-  border-between : (p h : ℕ) → InPlane p h x0 y0 → InPlane p h x1 y1 → (x y : ℕ) → borderOn x0 y0 x1 y1 x y ≡ true → InPlane p h x y
-  border-between p h a b x y e =
-      let k = border-edge x0 y0 x1 y1 _ _ _ _ refl refl refl refl x y e in
-      record { column = omega (arith, k .east, a .column, b .column); row = omega (arith, k .south, a .row, b .row) }
-
-pub border-judged : (p h x0 y0 x1 y1 : ℕ) → Judges p h (inB p h x0 y0 && inB p h x1 y1) (borderOn x0 y0 x1 y1)
+pub border-judged : (p h x0 y0 x1 y1 : ℕ)
+    → Judges p h (inB p h x0 y0 && inB p h x1 y1) (λ k. borderOn (x0 + k) (y0 + k) (x1 + k) (y1 + k))
 border-judged p h x0 y0 x1 y1 =
-    two-corners p h x0 y0 x1 y1 (borderOn x0 y0 x1 y1) (border-first x0 y0 x1 y1) (border-last x0 y0 x1 y1)
-    (border-between x0 y0 x1 y1 p h)
+    two-corners p h x0 y0 x1 y1 (λ k. borderOn (x0 + k) (y0 + k) (x1 + k) (y1 + k))
+    (λ k. border-first (x0 + k) (y0 + k) (x1 + k) (y1 + k)) (λ k. border-last (x0 + k) (y0 + k) (x1 + k) (y1 + k))
+    (λ a b k x y on.
+    let e = border-edge (x0 + k) (y0 + k) (x1 + k) (y1 + k) _ _ _ _ refl refl refl refl x y on in
+    record {
+      west = omega (arith, e .west);
+      north = omega (arith, e .north);
+      inside = record {
+        column = omega (arith, e .west, e .east, a .column, b .column);
+        row = omega (arith, e .north, e .south, a .row, b .row);
+      };
+    })
 
 -- ---- squares
 module _ (x0 y0 g : ℕ) (some : 0 < g) where
@@ -212,27 +257,37 @@ module _ (x0 y0 g : ℕ) (some : 0 < g) where
         lt-ltb (y0 + (8 * g - 1)) (y0 + 8 * g) (omega arith),
       )
 
-  square-within : (p h : ℕ) → x0 + 8 * g ≤ 16 * p → y0 + 8 * g ≤ h → (x y : ℕ) → squareOn x0 y0 g x y ≡ true → InPlane p h x y
+  square-within : (x y : ℕ) → squareOn x0 y0 g x y ≡ true → (x0 ≤ x) × (y0 ≤ y) × (x < x0 + 8 * g) × (y < y0 + 8 * g)
   unfolding squareOn
-  square-within p h a b x y e =
+  square-within x y e =
       let s = and-both (leb x0 x && ltb x (x0 + 8 * g) && leb y0 y) (ltb y (y0 + 8 * g)) e in
       let m = and-both (leb x0 x && ltb x (x0 + 8 * g)) (leb y0 y) (s .0) in
       let n = and-both (leb x0 x) (ltb x (x0 + 8 * g)) (m .0) in
-      record { column = omega (arith, ltb-true x (x0 + 8 * g) (n .1)); row = omega (arith, ltb-true y (y0 + 8 * g) (s .1)) }
+      (leb-true _ _ (n .0), leb-true _ _ (m .1), ltb-true _ _ (n .1), ltb-true _ _ (s .1))
 
-  pub square-judged : (p h : ℕ) → Judges p h (leb (x0 + 8 * g) (16 * p) && leb (y0 + 8 * g) h) (squareOn x0 y0 g)
-  square-judged p h =
-      record {
-        inside = λ e.
-            let t = and-both (leb (x0 + 8 * g) (16 * p)) (leb (y0 + 8 * g) h) e in
-            square-within p h (leb-true _ _ (t .0)) (leb-true _ _ (t .1));
-        outside = λ e.
-            record {
-              x = x0 + (8 * g - 1);
-              y = y0 + (8 * g - 1);
-              dot = square-last;
-              out = λ i. let c = i .column in
-                  let r = i .row in
-                  false≢true (sym e ∙ ap₂ _&&_ (le-leb (x0 + 8 * g) (16 * p) (omega arith)) (le-leb (y0 + 8 * g) h (omega arith)));
+pub square-judged : (x0 y0 g : ℕ) → 0 < g → (p h : ℕ)
+    → Judges p h (leb (x0 + 8 * g) (16 * p) && leb (y0 + 8 * g) h) (λ k. squareOn (x0 + k) (y0 + k) g)
+square-judged x0 y0 g some p h =
+    record {
+      inside = λ e k x y on.
+          let t = and-both (leb (x0 + 8 * g) (16 * p)) (leb (y0 + 8 * g) h) e in
+          let w = square-within (x0 + k) (y0 + k) g some x y on in
+          record {
+            west = omega (arith, w .0);
+            north = omega (arith, w .1);
+            inside = record {
+              column = omega (arith, w .0, w .2, leb-true (x0 + 8 * g) (16 * p) (t .0));
+              row = omega (arith, w .1, w .3, leb-true (y0 + 8 * g) h (t .1));
             };
-      }
+          };
+      outside = λ e.
+          record {
+            moved = 0;
+            x = x0 + 0 + (8 * g - 1);
+            y = y0 + 0 + (8 * g - 1);
+            dot = square-last (x0 + 0) (y0 + 0) g some;
+            out = λ i. let c = i .inside .column in
+                let r = i .inside .row in
+                false≢true (sym e ∙ ap₂ _&&_ (le-leb (x0 + 8 * g) (16 * p) (omega arith)) (le-leb (y0 + 8 * g) h (omega arith)));
+          };
+    }

@@ -7,10 +7,10 @@ use Rattle.records.specs.declared.Raw.{Raw}
 use Rattle.records.specs.declared.Room.{Room}
 use Rattle.records.specs.declared.Record.{Record}
 use Rattle.records.specs.declared.Refusal.{Refusal}
-use Rattle.records.specs.declared.Refusal.the-variants.{Form, GlyphNumber, Factor, Outside}
+use Rattle.records.specs.declared.Refusal.the-variants.{Form, GlyphNumber, Factor, Radius, Outside}
 use Rattle.records.specs.declared.Decoded.{Decoded}
 use Rattle.records.specs.declared.Decoded.the-variants.{Good, Refused}
-use Rattle.records.specs.Decode.{recordFormB, knownB, factorB, figureOf, decodedOf}
+use Rattle.records.specs.Decode.{recordFormB, knownB, factorB, radiusB, figureOf, decodedOf}
 use Rattle.records.specs.Inside.{insideB, judged}
 
 module _ (r : Raw) (glyphs : ℕ) where
@@ -26,10 +26,14 @@ module _ (r : Raw) (glyphs : ℕ) where
   unfolding decodedOf
   misfactored f k g = rw (f, k, g)
 
-  pub stands-for : recordFormB r ≡ true → knownB r glyphs ≡ true → factorB r ≡ true
+  pub missized : recordFormB r ≡ true → knownB r glyphs ≡ true → factorB r ≡ true → radiusB r ≡ false → Refused Radius ≡ decodedOf r glyphs
+  unfolding decodedOf
+  missized f k g s = rw (f, k, g, s)
+
+  pub stands-for : recordFormB r ≡ true → knownB r glyphs ≡ true → factorB r ≡ true → radiusB r ≡ true
       → Good (record { op = operationOf (r .op); figure = figureOf r }) ≡ decodedOf r glyphs
   unfolding decodedOf
-  stands-for f k g = rw (f, k, g)
+  stands-for f k g s = rw (f, k, g, s)
 
 module _ (m : Room) {d : Decoded} where
   pub stays-refused : {w : Refusal} → d ≡ Refused w → d ≡ judged m d

@@ -17,7 +17,8 @@ wordAt s at = byteAt s at + 256 * byteAt s (at + 1)
 abbrev pub recordPlace : ℕ → ℕ → ℕ
 recordPlace b i = 512 * b + 4 + 10 * i
 
--- "A record: kind, operation 0 to 3, x, y, four bytes." The four bytes are x1, y1, or a glyph's "number, factor 1 to 16, two zeros"
+-- "A record: kind, operation 0 to 3, x, y, four bytes." The four bytes are x1, y1, or a glyph's "number, factor 1 to 16, two zeros"; a
+-- circle's radius stands where x1 does
 abbrev pub rawAt : List ℕ → ℕ → Raw
 rawAt s at =
     record {
@@ -43,3 +44,7 @@ rectangleKind = 3
 
 abbrev pub glyphKind : ℕ
 glyphKind = 4
+
+-- 02, M-100: "Sheet record kind 5 is a circle about x, y, radius 1 to 2,000, two zero bytes"
+abbrev pub circleKind : ℕ
+circleKind = 5

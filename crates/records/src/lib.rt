@@ -3,8 +3,8 @@ use dots::Operation;
 ghost use mathlib.Core.Path.{_≡_};
 ghost use Prim.Native.Nat.{_<_};
 ghost use Rattle.records.specs.Raw.{byteAt, wordAt, recordPlace, rawAt};
-ghost use Rattle.records.specs.Decode.{recordFormB, knownB, factorB, figureOf, decodedOf, decodedAt};
-ghost use Rattle.records.specs.Inside.{pointB, squareB, insideB, judged};
+ghost use Rattle.records.specs.Decode.{recordFormB, knownB, factorB, radiusB, figureOf, decodedOf, decodedAt};
+ghost use Rattle.records.specs.Inside.{pointB, squareB, circleB, insideB, judged};
 ghost use Rattle.records.specs.Refused.{whyNumber, numberOf};
 
 // A dot of the plane.
@@ -18,6 +18,7 @@ pub enum Figure {
     Line(Point, Point),
     Rectangle(Point, Point),
     Glyph { at: Point, number: u8, factor: u8 },
+    Circle { centre: Point, radius: u16 },
 }
 
 pub struct Record {
@@ -30,6 +31,7 @@ pub enum Refusal {
     Form,
     GlyphNumber,
     Factor,
+    Radius,
     Outside,
 }
 
@@ -39,7 +41,7 @@ pub enum Decoded {
     Refused(Refusal),
 }
 
-// The ten bytes as numbers. The last four are given both ways: as x1, y1 and as a glyph's number and factor.
+// The ten bytes as numbers. The last four are given both ways: as x1, y1 and as a glyph's number and factor. A circle's radius is x1.
 pub struct Raw {
     pub kind: u8,
     pub op: u8,
@@ -66,6 +68,8 @@ const LINE: u8 = 2;
 const RECTANGLE: u8 = 3;
 
 const GLYPH: u8 = 4;
+
+const CIRCLE: u8 = 5;
 
 // What there is: the plane's dots across and down, and how many glyphs.
 pub struct Room {
@@ -118,10 +122,11 @@ fn formed(r: Raw) -> bool
     ensures { λ q. ⌜ q ≡ recordFormB r ⌝ }
 {
     (DOT <= r.kind)
-        & (r.kind <= GLYPH)
+        & (r.kind <= CIRCLE)
         & (r.op <= 3)
         & ((r.kind != DOT) | ((r.x1 == 0) & (r.y1 == 0)))
         & ((r.kind != GLYPH) | (r.y1 == 0))
+        & ((r.kind != CIRCLE) | (r.y1 == 0))
 }
 
 fn known(r: Raw, glyphs: u16) -> bool
@@ -134,6 +139,12 @@ fn factored(r: Raw) -> bool
     ensures { λ q. ⌜ q ≡ factorB r ⌝ }
 {
     (r.kind != GLYPH) | ((1 <= r.factor) & (r.factor <= 16))
+}
+
+fn sized(r: Raw) -> bool
+    ensures { λ q. ⌜ q ≡ radiusB r ⌝ }
+{
+    (r.kind != CIRCLE) | ((1 <= r.x1) & (r.x1 <= 2000))
 }
 
 fn figure_of(r: Raw) -> Figure
@@ -150,10 +161,16 @@ fn figure_of(r: Raw) -> Figure
     if r.kind == RECTANGLE {
         return Figure::Rectangle(a, b);
     }
-    Figure::Glyph {
-        at: a,
-        number: r.number,
-        factor: r.factor,
+    if r.kind == GLYPH {
+        return Figure::Glyph {
+            at: a,
+            number: r.number,
+            factor: r.factor,
+        };
+    }
+    Figure::Circle {
+        centre: a,
+        radius: r.x1,
     }
 }
 
@@ -168,6 +185,9 @@ fn decode(r: Raw, glyphs: u16) -> Decoded
     }
     if !factored(r) {
         return Decoded::Refused(Refusal::Factor);
+    }
+    if !sized(r) {
+        return Decoded::Refused(Refusal::Radius);
     }
     Decoded::Good(Record {
         op: dots::operation_of(r.op),
@@ -195,6 +215,15 @@ fn square_in(m: Room, a: Point, g: u8) -> bool
     (a.x as u32 + size <= m.across as u32) & (a.y as u32 + size <= m.down as u32)
 }
 
+// The four ends of a circle lie in the plane; nothing wraps.
+fn circle_in(m: Room, a: Point, r: u16) -> bool
+    ensures { λ q. ⌜ q ≡ circleB m a r ⌝ }
+{
+    let right = a.x as u32 + r as u32;
+    let bottom = a.y as u32 + r as u32;
+    (r <= a.x) & (r <= a.y) & (right < m.across as u32) & (bottom < m.down as u32)
+}
+
 // Whether a figure lies in the plane.
 pub fn inside(m: Room, f: Figure) -> bool
     ensures { λ q. ⌜ q ≡ insideB m f ⌝ }
@@ -208,6 +237,7 @@ pub fn inside(m: Room, f: Figure) -> bool
             number: _,
             factor,
         } => square_in(m, at, factor),
+        Figure::Circle { centre, radius } => circle_in(m, centre, radius),
     }
 }
 
@@ -232,6 +262,7 @@ fn why_number(w: Refusal) -> u8
         Refusal::Form => 16,
         Refusal::GlyphNumber => 17,
         Refusal::Factor => 18,
+        Refusal::Radius => 18,
         Refusal::Outside => 19,
     }
 }

@@ -1,22 +1,23 @@
 -- FIGD: one unit for the command and one for each dot. After i of its units the figure stands at the i-th cursor of its walk and
 -- has made the cycles before it: each unit is one cycle and, but for the last, one step.
 use mathlib.Core.Path.{_≡_, refl, ap, subst, _∙_}
-use mathlib.Core.Bool.{true}
+use mathlib.Core.Bool.{true, false, cond, _||_}
 use mathlib.Core.List.{List, [], _∷_}
 use Prim.Native.Nat.{ℕ, zero, suc, _+_, _≤_, _<_}
 use native.Mathlib.Omega.{arith}
+use lib.Dec.{eqb}
 use lib.ListN.{length}
-use borrow.Author.Tests.{lt-ltb, le-ltb}
+use borrow.Author.Tests.{lt-ltb, le-ltb, ne-eqb}
 use Rattle.dots.specs.declared.Cursor.{Cursor}
 use Rattle.registers.specs.declared.Command.the-variants.{Figd}
 use Rattle.registers.specs.declared.Work.the-variants.{Idle, Figure}
 use Rattle.registers.specs.declared.Drawing.{Drawing}
 use Rattle.registers.specs.declared.Registers.{Registers}
-use Rattle.registers.specs.Size.{dotsOf}
+use Rattle.registers.specs.Size.{plainKind, lineKind, arcKind, rectangleKind, dotsOf}
 use Rattle.registers.specs.Put.{putCursor, putProgress, putWork}
 use Rattle.registers.specs.State.{State, state}
 use Rattle.commands.specs.Decode.{commandOf}
-use Rattle.processor.specs.Command.{figureBegun, commandTaken}
+use Rattle.processor.specs.Command.{figureBegun, figdTaken, commandTaken}
 use Rattle.processor.specs.Entry.{entryTaken}
 use Rattle.figures.specs.Figure.{patternAt, directionAt, runningD, figureMoved, figureUnit}
 use Rattle.units.specs.Unit.{unitDone}
@@ -74,9 +75,18 @@ module _ (r : Registers) (m : List ℕ) where
 abbrev pub figd : Registers → Registers
 figd q = putProgress (drained q) (progress Figd 0)
 
+-- an arc has no dots of this kind
+no-arc : (f : Drawing) → 0 < dotsOf f → eqb (f .kind) arcKind ≡ false
+unfolding dotsOf
+no-arc f h = ne-eqb (f .kind) arcKind (λ e. go (f .kind) e h)
+  where
+    go : (k : ℕ) → k ≡ arcKind
+        → 0 < cond (eqb k plainKind || eqb k lineKind) (f .dc + 1) (cond (eqb k rectangleKind) (f .d + f .d2 + f .d + f .d2) 0) → ⊥
+    go k e p = let z = rw e at p in omega (arith, z)
+
 begun : (q : Registers) (m : List ℕ) → 0 < dotsOf (q .drawing) → takenBy 0x16C q m ≡ state (putWork (figd q) (Figure 0 (q .drawing .d))) m
-unfolding entryTaken commandTaken commandOf figureBegun
-begun q m h = rw (lt-ltb 0 (dotsOf (q .drawing)) h)
+unfolding entryTaken commandTaken commandOf figdTaken figureBegun
+begun q m h = rw (no-arc (q .drawing) h, lt-ltb 0 (dotsOf (q .drawing)) h)
 
 module _ {q : Registers} (v : Waiting q) (n : ℕ) (all : suc n ≡ dotsOf (q .drawing)) where
   reaches : (m : List ℕ) (i : ℕ) → unitsDone i (takenBy 0x16C q m) ≡ unitsDone i (state (putWork (figd q) (Figure 0 (q .drawing .d))) m)

@@ -8,3 +8,4 @@ pub mod EntryLaws
 pub mod GroupLaws
 pub mod DrawLaws
 pub mod CharacterLaws
+pub mod ArcLaws

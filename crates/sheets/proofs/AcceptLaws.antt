@@ -11,7 +11,7 @@ use lib.ListN.{length, drop}
 use borrow.Author.Tests.{eqb-true, eq-eqb, lt-ltb, le-ltb, ltb-true, leb-true, le-leb}
 use Rattle.records.specs.declared.Room.{Room}
 use Rattle.records.specs.declared.Refusal.{Refusal}
-use Rattle.records.specs.declared.Refusal.the-variants.{Form, GlyphNumber, Factor, Outside}
+use Rattle.records.specs.declared.Refusal.the-variants.{Form, GlyphNumber, Factor, Radius, Outside}
 use Rattle.records.specs.declared.Decoded.{Decoded}
 use Rattle.records.specs.declared.Decoded.the-variants.{Good, Refused}
 use Rattle.records.specs.Raw.{recordPlace, rawAt}
@@ -163,6 +163,7 @@ why-below : (w : Refusal) → whyNumber w < 20
 why-below Form = omega arith
 why-below GlyphNumber = omega arith
 why-below Factor = omega arith
+why-below Radius = omega arith
 why-below Outside = omega arith
 
 number-below : (d : Decoded) → numberOf d < 20

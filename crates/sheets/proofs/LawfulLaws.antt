@@ -1,5 +1,5 @@
 -- A block is not refused exactly if it is a `LawfulBlock`, a record exactly if it is a `LawfulRecord`. True because each test says one of
--- 01's conditions in numbers; and the test of the corners or the square holds exactly if every dot of the record's shape lies in the
+-- 01's conditions in numbers; and the test of the corners, of the square or of a circle's ends holds exactly if every dot of the record's shape lies in the
 -- plane (`Judges` of crate geometry).
 use mathlib.Core.Path.{_≡_, refl, sym}
 use mathlib.Core.Bool.{Bool, true, false, cond, _&&_}
@@ -10,20 +10,21 @@ use lib.Dec.{eqb}
 use borrow.Author.Tests.{eqb-true, eqb-false, eq-eqb, leb-true, le-leb}
 use Rattle.geometry.specs.Plane.{Shape}
 use Rattle.geometry.proofs.OutsideLaws.{Outside, Judges, judges-only, outside-only, dot-judged, line-judged, border-judged, square-judged}
+use Rattle.circles.proofs.OutsideLaws.{circle-judged}
 use Rattle.records.specs.declared.Raw.{Raw}
 use Rattle.records.specs.declared.Room.{Room}
 use Rattle.records.specs.declared.Record.{Record}
 use Rattle.records.specs.declared.Figure.{Figure}
-use Rattle.records.specs.declared.Refusal.the-variants.{Form, GlyphNumber, Factor}
+use Rattle.records.specs.declared.Refusal.the-variants.{Form, GlyphNumber, Factor, Radius}
 use Rattle.records.specs.declared.Refusal.the-variants as refusals
 use Rattle.records.specs.declared.Decoded.{Decoded}
 use Rattle.records.specs.declared.Decoded.the-variants.{Good, Refused}
-use Rattle.records.specs.Raw.{recordPlace}
-use Rattle.records.specs.Decode.{recordFormB, knownB, factorB, figureOf, decodedOf}
+use Rattle.records.specs.Raw.{recordPlace, dotKind, lineKind, rectangleKind, glyphKind, circleKind}
+use Rattle.records.specs.Decode.{recordFormB, knownB, factorB, radiusB, figureOf, decodedOf}
 use Rattle.records.specs.Inside.{insideB, judged}
 use Rattle.records.specs.Refused.{numberOf}
 use Rattle.records.proofs.TestLaws.{and-both}
-use Rattle.records.proofs.FormLaws.{Formed, form-means, form-is, known-means, known-is, factor-means, factor-is, else-glyph}
+use Rattle.records.proofs.FormLaws.{Formed, form-means, form-is, known-means, known-is, factor-means, factor-is, radius-means, radius-is, else-circle}
 use Rattle.blocks.specs.Block.{checkOf, countOf, checkB, numberB, countB, lastB, spareB, unusedB, headB, blockRefusal}
 use Rattle.blocks.proofs.BlockLaws.{zeros-all, all-zeros}
 use Rattle.sheets.specs.Lawful.{LawfulBlock, recordOn, LawfulRecord}
@@ -94,41 +95,49 @@ module _ (p h glyphs : ℕ) where
   abbrev m : Room
   m = record { across = 16 * p; down = h; glyphs = glyphs }
 
-  by-test : (t : Bool) (f g : Figure) (u v : Shape) → Judges p h (insideB m f) u → (t ≡ false → Judges p h (insideB m g) v)
-      → Judges p h (insideB m (cond t f g)) (cond t u v)
-  by-test true f g u v j k = j
+  by-test : (t : Bool) (f g : Figure) (u v : ℕ → Shape) → (t ≡ true → Judges p h (insideB m f) u)
+      → (t ≡ false → Judges p h (insideB m g) v) → Judges p h (insideB m (cond t f g)) (λ k. cond t (u k) (v k))
+  by-test true f g u v j k = j refl
   by-test false f g u v j k = k refl
 
+  -- a factor and a radius of 1 or more, as 18 asks
+  record Sized (r : Raw) : Type 0 where
+    factor : r .kind ≡ glyphKind → 0 < r .factor
+    radius : (r .kind ≡ dotKind → ⊥) → (r .kind ≡ lineKind → ⊥) → (r .kind ≡ rectangleKind → ⊥) → (r .kind ≡ glyphKind → ⊥) → 0 < r .x1
+
   -- each kind of shape is judged by its own test
-  pub record-judged : (r : Raw) → (eqb (r .kind) 1 ≡ false → eqb (r .kind) 2 ≡ false → eqb (r .kind) 3 ≡ false → 0 < r .factor)
-      → Judges p h (insideB m (figureOf r)) (recordOn r)
+  record-judged : (r : Raw) → Sized r → Judges p h (insideB m (figureOf r)) (recordOn r)
   unfolding figureOf
   record-judged r some =
-      by-test (eqb (r .kind) 1) _ _ _ _ (dot-judged p h (r .x) (r .y))
-      (λ a. by-test (eqb (r .kind) 2) _ _ _ _ (line-judged p h (r .x) (r .y) (r .x1) (r .y1))
-      (λ b. by-test (eqb (r .kind) 3) _ _ _ _ (border-judged p h (r .x) (r .y) (r .x1) (r .y1))
-      (λ c. square-judged (r .x) (r .y) (r .factor) (some a b c) p h)))
+      by-test (eqb (r .kind) 1) _ _ _ _ (λ e. dot-judged p h (r .x) (r .y))
+      (λ a. by-test (eqb (r .kind) 2) _ _ _ _ (λ e. line-judged p h (r .x) (r .y) (r .x1) (r .y1))
+      (λ b. by-test (eqb (r .kind) 3) _ _ _ _ (λ e. border-judged p h (r .x) (r .y) (r .x1) (r .y1))
+      (λ c. by-test (eqb (r .kind) 4) _ _ _ _ (λ d. square-judged (r .x) (r .y) (r .factor) (some .factor (eqb-true _ 4 d)) p h)
+      (λ d. circle-judged (r .x) (r .y) (r .x1) (some .radius (eqb-false _ 1 a) (eqb-false _ 2 b) (eqb-false _ 3 c) (eqb-false _ 4 d)) p h))))
 
-  some-factor : (r : Raw) → Formed r → (r .kind ≡ 4 → (1 ≤ r .factor) × (r .factor ≤ 16))
-      → eqb (r .kind) 1 ≡ false → eqb (r .kind) 2 ≡ false → eqb (r .kind) 3 ≡ false → 0 < r .factor
-  some-factor r w f a b c = f (else-glyph r w (eqb-false _ 1 a) (eqb-false _ 2 b) (eqb-false _ 3 c)) .0
+  sized : (r : Raw) → Formed r → (r .kind ≡ glyphKind → (1 ≤ r .factor) × (r .factor ≤ 16))
+      → (r .kind ≡ circleKind → (1 ≤ r .x1) × (r .x1 ≤ 2000)) → Sized r
+  sized r w f g = record { factor = λ k. f k .0; radius = λ a b c d. g (else-circle r w a b c d) .0 }
 
-  -- the four tests of a record in their order: past 16 to 18 the fourth decides
-  abbrev decodedBy : Bool → Bool → Bool → Record → Decoded
-  decodedBy a b c q = cond a (cond b (cond c (Good q) (Refused Factor)) (Refused GlyphNumber)) (Refused Form)
+  -- the five tests of a record in their order: past 16 to 18 the fifth decides
+  abbrev decodedBy : Bool → Bool → Bool → Bool → Record → Decoded
+  decodedBy a b c d q = cond a (cond b (cond c (cond d (Good q) (Refused Radius)) (Refused Factor)) (Refused GlyphNumber)) (Refused Form)
 
-  tests : (a b c : Bool) (q : Record) (x : ℕ) → numberOf (judged m (decodedBy a b c q)) ≡ x → (x ≡ 16 → ⊥) → (x ≡ 17 → ⊥) → (x ≡ 18 → ⊥)
-      → (a ≡ true) × (b ≡ true) × (c ≡ true) × (numberOf (judged m (Good q)) ≡ x)
-  tests true true true q x e f g k = (refl, refl, refl, e)
-  tests true true false q x e f g k = absurd (k (sym e))
-  tests true false c q x e f g k = absurd (g (sym e))
-  tests false b c q x e f g k = absurd (f (sym e))
+  tests : (a b c d : Bool) (q : Record) (x : ℕ) → numberOf (judged m (decodedBy a b c d q)) ≡ x
+      → (x ≡ 16 → ⊥) → (x ≡ 17 → ⊥) → (x ≡ 18 → ⊥)
+      → (a ≡ true) × (b ≡ true) × (c ≡ true) × (d ≡ true) × (numberOf (judged m (Good q)) ≡ x)
+  tests true true true true q x e f g k = (refl, refl, refl, refl, e)
+  tests true true true false q x e f g k = absurd (k (sym e))
+  tests true true false d q x e f g k = absurd (k (sym e))
+  tests true false c d q x e f g k = absurd (g (sym e))
+  tests false b c d q x e f g k = absurd (f (sym e))
 
-  passed : (a b c : Bool) (q : Record) → numberOf (decodedBy a b c q) ≡ 0 → (a ≡ true) × (b ≡ true) × (c ≡ true)
-  passed true true true q e = (refl, refl, refl)
-  passed true true false q e = absurd (omega arith)
-  passed true false c q e = absurd (omega arith)
-  passed false b c q e = absurd (omega arith)
+  passed : (a b c d : Bool) (q : Record) → numberOf (decodedBy a b c d q) ≡ 0 → (a ≡ true) × (b ≡ true) × (c ≡ true) × (d ≡ true)
+  passed true true true true q e = (refl, refl, refl, refl)
+  passed true true true false q e = absurd (omega arith)
+  passed true true false d q e = absurd (omega arith)
+  passed true false c d q e = absurd (omega arith)
+  passed false b c d q e = absurd (omega arith)
 
   test-in : (d : Bool) (q : Record) → numberOf (cond d (Good q) (Refused refusals.Outside)) ≡ 0 → d ≡ true
   test-in true q e = refl
@@ -142,18 +151,21 @@ module _ (p h glyphs : ℕ) where
     pub record-lawful : numberOf (judged m (decodedOf r glyphs)) ≡ 0 → LawfulRecord p h glyphs r
     unfolding decodedOf
     record-lawful e =
-        let w = tests (recordFormB r) (knownB r glyphs) (factorB r) _ 0 e (λ k. omega arith) (λ k. omega arith) (λ k. omega arith) in
+        let w = tests (recordFormB r) (knownB r glyphs) (factorB r) (radiusB r) _ 0 e (λ k. omega arith) (λ k. omega arith) (λ k. omega arith) in
         let f = form-means r (w .0) in
         let g = factor-means r (w .2) in
+        let s = radius-means r (w .3) in
         record {
           least-kind = f .least;
           greatest-kind = f .greatest;
           operation = f .operation;
           dot-zeros = f .dot-zeros;
           glyph-zeros = f .glyph-zeros;
+          circle-zeros = f .circle-zeros;
           number = known-means r (w .1);
           factor = g;
-          inside = record-judged r (some-factor r f g) .inside (test-in (insideB m (figureOf r)) _ (w .3));
+          radius = s;
+          inside = record-judged r (sized r f g s) .inside (test-in (insideB m (figureOf r)) _ (w .4));
         }
 
     pub record-granted : LawfulRecord p h glyphs r → numberOf (judged m (decodedOf r glyphs)) ≡ 0
@@ -165,23 +177,32 @@ module _ (p h glyphs : ℕ) where
           operation = w .operation;
           dot-zeros = w .dot-zeros;
           glyph-zeros = w .glyph-zeros;
+          circle-zeros = w .circle-zeros;
         } in
         rw (
           form-is r f,
           known-is r (w .number),
           factor-is r (w .factor),
-          judges-only (record-judged r (some-factor r f (w .factor))) (w .inside),
+          radius-is r (w .radius),
+          judges-only (record-judged r (sized r f (w .factor) (w .radius))) (w .inside),
         )
 
     -- "19 | a dot outside": some dot of the record's shape lies outside the plane, and where 16 to 18 do not arise only there
     pub nineteen-means : numberOf (judged m (decodedOf r glyphs)) ≡ 19 → Outside p h (recordOn r)
     unfolding decodedOf
     nineteen-means e =
-        let w = tests (recordFormB r) (knownB r glyphs) (factorB r) _ 19 e (λ k. omega arith) (λ k. omega arith) (λ k. omega arith) in
-        record-judged r (some-factor r (form-means r (w .0)) (factor-means r (w .2))) .outside (test-out (insideB m (figureOf r)) _ (w .3))
+        let w = tests (recordFormB r) (knownB r glyphs) (factorB r) (radiusB r) _ 19 e (λ k. omega arith) (λ k. omega arith) (λ k. omega arith) in
+        record-judged r (sized r (form-means r (w .0)) (factor-means r (w .2)) (radius-means r (w .3)))
+        .outside (test-out (insideB m (figureOf r)) _ (w .4))
 
     pub nineteen-only : numberOf (decodedOf r glyphs) ≡ 0 → Outside p h (recordOn r) → numberOf (judged m (decodedOf r glyphs)) ≡ 19
     unfolding decodedOf
     nineteen-only z o =
-        let w = passed (recordFormB r) (knownB r glyphs) (factorB r) _ z in
-        rw (w .0, w .1, w .2, outside-only (record-judged r (some-factor r (form-means r (w .0)) (factor-means r (w .2)))) o)
+        let w = passed (recordFormB r) (knownB r glyphs) (factorB r) (radiusB r) _ z in
+        rw (
+          w .0,
+          w .1,
+          w .2,
+          w .3,
+          outside-only (record-judged r (sized r (form-means r (w .0)) (factor-means r (w .2)) (radius-means r (w .3)))) o,
+        )

@@ -10,7 +10,7 @@ use Rattle.records.specs.declared.Record.{Record}
 use Rattle.records.specs.declared.Room.{Room}
 use Rattle.records.specs.declared.Refusal.{Refusal}
 use Rattle.records.specs.declared.Figure.{Figure}
-use Rattle.records.specs.declared.Figure.the-variants.{Dot, Line, Rectangle, Glyph}
+use Rattle.records.specs.declared.Figure.the-variants.{Dot, Line, Rectangle, Glyph, Circle}
 use Rattle.records.specs.declared.Decoded.{Decoded}
 use Rattle.records.specs.declared.Decoded.the-variants.{Good, Refused}
 use Rattle.entries.specs.Entries.{placed, plain, figureSize, sizeOf, entriesOf}
@@ -42,20 +42,21 @@ pub size-one : {f : List Record} {r : Record} {q : ℕ} → f ≡ r ∷ [] → q
 unfolding sized
 size-one {r = r} e z = rw e (omega (arith, z))
 
-size-small : (f : Figure) → figureSize f ≤ 20
+size-small : (f : Figure) → figureSize f ≤ 160
 size-small (Dot a) = omega arith
 size-small (Line a b) = omega arith
 size-small (Rectangle a b) = omega arith
 size-small (Glyph a n g) = omega arith
+size-small (Circle c r) = omega arith
 
-small : (b : Bool) (d : Decoded) → sized (cond b (figuresIn d) []) ≤ 21
+small : (b : Bool) (d : Decoded) → sized (cond b (figuresIn d) []) ≤ 161
 unfolding sized sizeOf
 small true (Good r) = omega (arith, size-small (plain (r .figure)))
 small true (Refused w) = omega arith
 small false d = omega arith
 
--- a slot takes at most 21 entries
-pub slot-small : (s : List ℕ) (m : Room) (k : ℕ) {x : ℕ} → x ≡ sized (slotFigures s m k) → x ≤ 21
+-- a slot takes at most 161 entries
+pub slot-small : (s : List ℕ) (m : Room) (k : ℕ) {x : ℕ} → x ≡ sized (slotFigures s m k) → x ≤ 161
 unfolding slotFigures
 slot-small s m k e = rw e (small (usedB s k) (slotDecoded s m k))
 
@@ -65,8 +66,8 @@ unfolding sized
 sized-append [] b = omega arith
 sized-append (r ∷ a) b = omega (arith, sized-append a b)
 
--- so many slots take at most 21 times as many entries
-pub figures-few : (s : List ℕ) (m : Room) (n k : ℕ) → sized (figuresFrom s m n k) ≤ 21 * n
+-- so many slots take at most 161 times as many entries: 800 of them at most 128,800
+pub figures-few : (s : List ℕ) (m : Room) (n k : ℕ) → sized (figuresFrom s m n k) ≤ 161 * n
 unfolding figuresFrom sized
 figures-few s m zero k = omega arith
 figures-few s m (suc n) k =

@@ -1,4 +1,4 @@
--- A sheet that 01 accepts: its conditions in the order of its table of refusals, each a line, and no word of how the translator looks.
+-- A sheet that 01, with 02's circles (M-100), accepts: its conditions in the order of its table of refusals, each a line, and no word of how the translator looks.
 -- `accepts`, `tells-need` and `accepted-only` of proofs/AcceptLaws show that the translator answers 0, or 20 where the output is too short,
 -- exactly for these.
 use mathlib.Core.Path.{_≡_}
@@ -7,9 +7,9 @@ use mathlib.Core.List.{List}
 use Prim.Native.Nat.{ℕ, _+_, _*_, _/_, _%_, _<_, _≤_}
 use lib.Dec.{eqb}
 use lib.ListN.{length}
-use Rattle.geometry.specs.Plane.{InPlane, Shape, dotOn, lineOn, borderOn, squareOn}
+use Rattle.geometry.specs.Plane.{InMoved, Shape, dotOn, lineOn, borderOn, squareOn, circleOn}
 use Rattle.records.specs.declared.Raw.{Raw}
-use Rattle.records.specs.Raw.{byteAt, wordAt, recordPlace, rawAt, dotKind, lineKind, rectangleKind, glyphKind}
+use Rattle.records.specs.Raw.{byteAt, wordAt, recordPlace, rawAt, dotKind, lineKind, rectangleKind, glyphKind, circleKind}
 use Rattle.blocks.specs.Block.{sumWords, countOf}
 
 -- block b of n
@@ -28,30 +28,35 @@ pub record LawfulBlock (s : List ℕ) (n b : ℕ) : Type 0 where
   -- "4-503 fifty records of ten bytes, unused ones zero"
   pub unused : (i j : ℕ) → countOf s b ≤ i → i < 50 → j < 10 → byteAt s (recordPlace b i + j) ≡ 0
 
--- the dots of a record, by its kind: "1 dot"; "2 line to x1, y1"; "3 rectangle to any opposite corner x1, y1"; else a glyph
-abbrev pub recordOn : Raw → Shape
-recordOn r =
-    cond (eqb (r .kind) dotKind) (dotOn (r .x) (r .y))
-    (cond (eqb (r .kind) lineKind) (lineOn (r .x) (r .y) (r .x1) (r .y1))
-    (cond (eqb (r .kind) rectangleKind) (borderOn (r .x) (r .y) (r .x1) (r .y1)) (squareOn (r .x) (r .y) (r .factor))))
+-- the dots of a record moved right and down by k, by its kind: "1 dot"; "2 line to x1, y1"; "3 rectangle to any opposite corner
+-- x1, y1"; "4 glyph"; else "a circle about x, y", whose radius stands where x1 does
+abbrev pub recordOn : Raw → ℕ → Shape
+recordOn r k =
+    cond (eqb (r .kind) dotKind) (dotOn (r .x + k) (r .y + k))
+    (cond (eqb (r .kind) lineKind) (lineOn (r .x + k) (r .y + k) (r .x1 + k) (r .y1 + k))
+    (cond (eqb (r .kind) rectangleKind) (borderOn (r .x + k) (r .y + k) (r .x1 + k) (r .y1 + k))
+    (cond (eqb (r .kind) glyphKind) (squareOn (r .x + k) (r .y + k) (r .factor)) (circleOn (r .x + k) (r .y + k) (r .x1)))))
 
 -- a record within its block's count, for a plane of P words by H lines and so many glyphs
 pub record LawfulRecord (p h glyphs : ℕ) (r : Raw) : Type 0 where
-  -- 16, the form: kinds 1 to 4
+  -- 16, the form: kinds 1 to 5
   pub least-kind : dotKind ≤ r .kind
-  pub greatest-kind : r .kind ≤ glyphKind
+  pub greatest-kind : r .kind ≤ circleKind
   -- "operation 0 to 3"
   pub operation : r .op ≤ 3
   -- "1 dot (four zeros)"
   pub dot-zeros : r .kind ≡ dotKind → (r .x1 ≡ 0) × (r .y1 ≡ 0)
   -- "4 glyph (number, factor 1 to 16, two zeros)"
   pub glyph-zeros : r .kind ≡ glyphKind → r .y1 ≡ 0
+  -- "kind 5 is a circle about x, y, radius 1 to 2,000, two zero bytes"
+  pub circle-zeros : r .kind ≡ circleKind → r .y1 ≡ 0
   -- 17: the table has the glyph
   pub number : r .kind ≡ glyphKind → r .number < glyphs
-  -- 18: "factor 1 to 16"
+  -- 18: "factor 1 to 16"; "also for a radius out of range"
   pub factor : r .kind ≡ glyphKind → (1 ≤ r .factor) × (r .factor ≤ 16)
-  -- 19: no dot outside
-  pub inside : (x y : ℕ) → recordOn r x y ≡ true → InPlane p h x y
+  pub radius : r .kind ≡ circleKind → (1 ≤ r .x1) × (r .x1 ≤ 2000)
+  -- 19: no dot outside, whatever k the record and the plane are moved by; so no dot lies left of the plane or above it either
+  pub inside : (k x y : ℕ) → recordOn r k x y ≡ true → InMoved k p h x y
 
 -- the sheet s, for a plane of P words by H lines and the glyph table t
 pub record Lawful (s : List ℕ) (p h : ℕ) (t : List ℕ) : Type 0 where

@@ -4,6 +4,9 @@ use borrow.Author.Needs.{needs}
 use Rattle.entries.proofs.glyph_entries.Statement.{statement}
 use Rattle.entries.proofs.glyph_entries.Tie as tie
 
+cast-x : tie.Need-cast-x
+cast-x c = search needs
+
 cast-word-of : tie.Need-cast-word-of
 cast-word-of c = search needs
 
@@ -25,14 +28,14 @@ mul-k c = search needs
 less-requires-2 : tie.Need-less-requires-2
 less-requires-2 c κs = search needs
 
-cast-t14 : tie.Need-cast-t14
-cast-t14 c = search needs
-
 cast-t15 : tie.Need-cast-t15
 cast-t15 c = search needs
 
 cast-t16 : tie.Need-cast-t16
 cast-t16 c = search needs
+
+cast-t17 : tie.Need-cast-t17
+cast-t17 c = search needs
 
 third-requires : tie.Need-third-requires
 third-requires c κs = search needs
@@ -103,6 +106,7 @@ pub glyph-entries-spec : {M : Type 1} → statement M
 glyph-entries-spec =
     tie.close
     (tie.spec
+    cast-x
     cast-word-of
     mul-less
     less-requires
@@ -110,9 +114,9 @@ glyph-entries-spec =
     word-of-requires
     mul-k
     less-requires-2
-    cast-t14
     cast-t15
     cast-t16
+    cast-t17
     third-requires
     row-requires
     add-row

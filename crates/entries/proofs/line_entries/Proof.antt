@@ -4,6 +4,9 @@ use borrow.Author.Needs.{needs}
 use Rattle.entries.proofs.line_entries.Statement.{statement}
 use Rattle.entries.proofs.line_entries.Tie as tie
 
+cast-x : tie.Need-cast-x
+cast-x c = search needs
+
 cast-word-of : tie.Need-cast-word-of
 cast-word-of c = search needs
 
@@ -34,50 +37,50 @@ mul-minus-3 c = search needs
 minus-requires-2 : tie.Need-minus-requires-2
 minus-requires-2 c κs = search needs
 
-cast-t12 : tie.Need-cast-t12
-cast-t12 c = search needs
+cast-t13 : tie.Need-cast-t13
+cast-t13 c = search needs
 
-cast-t14 : tie.Need-cast-t14
-cast-t14 c = search needs
+cast-t15 : tie.Need-cast-t15
+cast-t15 c = search needs
 
 third-requires : tie.Need-third-requires
 third-requires c κs = search needs
 
-cast-t16 : tie.Need-cast-t16
-cast-t16 c = search needs
+cast-t17 : tie.Need-cast-t17
+cast-t17 c = search needs
 
-add-t17 : tie.Need-add-t17
-add-t17 c = search needs
+add-t18 : tie.Need-add-t18
+add-t18 c = search needs
 
-cast-t19 : tie.Need-cast-t19
-cast-t19 c = search needs
+cast-t20 : tie.Need-cast-t20
+cast-t20 c = search needs
 
-cast-t22 : tie.Need-cast-t22
-cast-t22 c = search needs
+cast-t23 : tie.Need-cast-t23
+cast-t23 c = search needs
 
-cast-t24 : tie.Need-cast-t24
-cast-t24 c = search needs
+cast-t25 : tie.Need-cast-t25
+cast-t25 c = search needs
 
-cast-t27 : tie.Need-cast-t27
-cast-t27 c = search needs
+cast-t28 : tie.Need-cast-t28
+cast-t28 c = search needs
 
-cast-t29 : tie.Need-cast-t29
-cast-t29 c = search needs
+cast-t30 : tie.Need-cast-t30
+cast-t30 c = search needs
 
-cast-t32 : tie.Need-cast-t32
-cast-t32 c = search needs
+cast-t33 : tie.Need-cast-t33
+cast-t33 c = search needs
 
-mul-t33 : tie.Need-mul-t33
-mul-t33 c = search needs
+mul-t34 : tie.Need-mul-t34
+mul-t34 c = search needs
 
-cast-t35 : tie.Need-cast-t35
-cast-t35 c = search needs
+cast-t36 : tie.Need-cast-t36
+cast-t36 c = search needs
 
-mul-t36 : tie.Need-mul-t36
-mul-t36 c = search needs
+mul-t37 : tie.Need-mul-t37
+mul-t37 c = search needs
 
-cast-t39 : tie.Need-cast-t39
-cast-t39 c = search needs
+cast-t40 : tie.Need-cast-t40
+cast-t40 c = search needs
 
 returns : tie.Need-returns
 unfolding lineEntries
@@ -93,6 +96,7 @@ pub line-entries-spec : {M : Type 1} → statement M
 line-entries-spec =
     tie.close
     (tie.spec
+    cast-x
     cast-word-of
     word-of-requires
     slope-of-requires
@@ -103,19 +107,19 @@ line-entries-spec =
     mul-minus-2
     mul-minus-3
     minus-requires-2
-    cast-t12
-    cast-t14
+    cast-t13
+    cast-t15
     third-requires
-    cast-t16
-    add-t17
-    cast-t19
-    cast-t22
-    cast-t24
-    cast-t27
-    cast-t29
-    cast-t32
-    mul-t33
-    cast-t35
-    mul-t36
-    cast-t39
+    cast-t17
+    add-t18
+    cast-t20
+    cast-t23
+    cast-t25
+    cast-t28
+    cast-t30
+    cast-t33
+    mul-t34
+    cast-t36
+    mul-t37
+    cast-t40
     returns)

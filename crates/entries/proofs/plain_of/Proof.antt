@@ -29,6 +29,9 @@ returns c = rw (
 enum-known-f-4 : tie.Need-enum-known-f-4
 enum-known-f-4 c = search needs
 
+enum-known-f-5 : tie.Need-enum-known-f-5
+enum-known-f-5 c = search needs
+
 returns-2 : tie.Need-returns-2
 returns-2 c = rw (c .before .f .given .1)
 
@@ -47,6 +50,9 @@ returns-4 c =
 returns-5 : tie.Need-returns-5
 returns-5 c = rw (c .before .f4 .given .1)
 
+returns-6 : tie.Need-returns-6
+returns-6 c = rw (c .before .f5 .given .1)
+
 pub plain-of-spec : {M : Type 1} → statement M
 plain-of-spec =
     tie.close
@@ -58,7 +64,9 @@ plain-of-spec =
     greatest-of-requires
     returns
     enum-known-f-4
+    enum-known-f-5
     returns-2
     returns-3
     returns-4
-    returns-5)
+    returns-5
+    returns-6)

@@ -1,5 +1,5 @@
 -- `put_figure` gives `placed` of `figureEntries`: one array of entries for each case of the figure.
-use mathlib.Core.Path.{_∙_, ap₂}
+use mathlib.Core.Path.{refl, _∙_, ap₂}
 use Rattle.entries.specs.Entries.{rectangleEntries}
 use Rattle.entries.proofs.PutLaws.{put-by}
 use borrow.Author.Needs.{needs}
@@ -60,6 +60,12 @@ slice-aggregate-put-from-4 c = search needs
 put-from-requires-4 : tie.Need-put-from-requires-4
 put-from-requires-4 c κs = search needs
 
+enum-known-f-5 : tie.Need-enum-known-f-5
+enum-known-f-5 c = search needs
+
+put-circle-requires : tie.Need-put-circle-requires
+put-circle-requires c κs = search needs
+
 same-length : tie.Need-same-length
 same-length c = search needs
 
@@ -94,6 +100,12 @@ returns-4 c =
     put-by _ _ _ _ (c .before .before .before .before .before .before .before .f4 .given .1)
     (c .before .before .before .before .glyph-entries .ensures) (c .before .before .put-from4 .ensures)
 
+same-length-5 : tie.Need-same-length-5
+same-length-5 c = search needs
+
+returns-5 : tie.Need-returns-5
+returns-5 c = put-by _ _ _ _ (c .before .before .before .before .before .f5 .given .1) refl (c .before .before .put-circle .ensures)
+
 pub put-figure-spec : {M : Type 1} → statement M
 put-figure-spec =
     tie.close
@@ -116,6 +128,8 @@ put-figure-spec =
     glyph-entries-requires
     slice-aggregate-put-from-4
     put-from-requires-4
+    enum-known-f-5
+    put-circle-requires
     same-length
     returns
     same-length-2
@@ -123,4 +137,6 @@ put-figure-spec =
     same-length-3
     returns-3
     same-length-4
-    returns-4)
+    returns-4
+    same-length-5
+    returns-5)

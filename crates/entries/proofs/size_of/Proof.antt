@@ -19,6 +19,9 @@ enum-told-3 c = search needs
 enum-told-4 : tie.Need-enum-told-4
 enum-told-4 c = search needs
 
+enum-told-5 : tie.Need-enum-told-5
+enum-told-5 c = search needs
+
 returns : tie.Need-returns
 returns c = size-by _ (c .before .before .plain-of .ensures) (c .enum-told .given .1)
 
@@ -31,6 +34,9 @@ returns-3 c = size-by _ (c .before .before .plain-of .ensures) (c .enum-told3 .g
 returns-4 : tie.Need-returns-4
 returns-4 c = size-by _ (c .before .before .plain-of .ensures) (c .enum-told4 .given .1)
 
+returns-5 : tie.Need-returns-5
+returns-5 c = size-by _ (c .before .before .plain-of .ensures) (c .enum-told5 .given .1)
+
 pub size-of-spec : {M : Type 1} → statement M
 size-of-spec =
     tie.close
@@ -40,7 +46,9 @@ size-of-spec =
     enum-told-2
     enum-told-3
     enum-told-4
+    enum-told-5
     returns
     returns-2
     returns-3
-    returns-4)
+    returns-4
+    returns-5)

@@ -1,7 +1,7 @@
 -- `decode` gives `decodedOf`: one law of DecodeLaws for each way out.
 use mathlib.Core.Path.{sym, _∙_}
 use borrow.Author.Tests.{not-true, not-false}
-use Rattle.records.proofs.DecodeLaws.{misformed, unknown, misfactored, stands-for}
+use Rattle.records.proofs.DecodeLaws.{misformed, unknown, misfactored, missized, stands-for}
 use borrow.Author.Needs.{needs}
 use Rattle.records.proofs.decode.Statement.{statement}
 use Rattle.records.proofs.decode.Tie as tie
@@ -30,19 +30,34 @@ returns-3 c =
     (sym (c .before .before .before .known .ensures) ∙ not-false _ (c .before .before .if2 .left))
     (sym (c .before .factored .ensures) ∙ not-true _ (c .if3 .taken))
 
+sized-requires : tie.Need-sized-requires
+sized-requires c κs = search needs
+
+returns-4 : tie.Need-returns-4
+returns-4 c =
+    let f = c .before .before in
+    missized _ _ (sym (f .before .before .before .before .before .formed .ensures)
+    ∙ not-false _ (f .before .before .before .before .if1 .left))
+    (sym (f .before .before .before .known .ensures) ∙ not-false _ (f .before .before .if2 .left))
+    (sym (f .before .factored .ensures) ∙ not-false _ (f .if3 .left))
+    (sym (c .before .sized .ensures) ∙ not-true _ (c .if4 .taken))
+
 operation-of-requires : tie.Need-operation-of-requires
 operation-of-requires c κs = search needs
 
 figure-of-requires : tie.Need-figure-of-requires
 figure-of-requires c κs = search needs
 
-returns-4 : tie.Need-returns-4
-returns-4 c =
+returns-5 : tie.Need-returns-5
+returns-5 c =
+    let s = c .before .before in
+    let f = s .before .before in
     rw (c .figure-of .ensures, c .before .operation-of .ensures)
-    (stands-for _ _ (sym (c .before .before .before .before .before .before .before .formed .ensures)
-    ∙ not-false _ (c .before .before .before .before .before .before .if1 .left))
-    (sym (c .before .before .before .before .before .known .ensures) ∙ not-false _ (c .before .before .before .before .if2 .left))
-    (sym (c .before .before .before .factored .ensures) ∙ not-false _ (c .before .before .if3 .left)))
+    (stands-for _ _ (sym (f .before .before .before .before .before .formed .ensures)
+    ∙ not-false _ (f .before .before .before .before .if1 .left))
+    (sym (f .before .before .before .known .ensures) ∙ not-false _ (f .before .before .if2 .left))
+    (sym (f .before .factored .ensures) ∙ not-false _ (f .if3 .left))
+    (sym (s .before .sized .ensures) ∙ not-false _ (s .if4 .left)))
 
 pub decode-spec : {M : Type 1} → statement M
 decode-spec =
@@ -54,6 +69,8 @@ decode-spec =
     returns-2
     factored-requires
     returns-3
+    sized-requires
+    returns-4
     operation-of-requires
     figure-of-requires
-    returns-4)
+    returns-5)

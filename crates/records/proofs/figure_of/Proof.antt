@@ -20,7 +20,22 @@ returns-3 c =
 returns-4 : tie.Need-returns-4
 unfolding figureOf
 returns-4 c =
-    rw (ne-eqb _ 1 (c .before .before .before .before .if1 .left), ne-eqb _ 2 (c .before .before .if2 .left), ne-eqb _ 3 (c .if3 .left))
+    rw (
+      ne-eqb _ 1 (c .before .before .before .before .before .before .if1 .left),
+      ne-eqb _ 2 (c .before .before .before .before .if2 .left),
+      ne-eqb _ 3 (c .before .before .if3 .left),
+      eq-eqb _ 4 (c .if4 .taken),
+    )
+
+returns-5 : tie.Need-returns-5
+unfolding figureOf
+returns-5 c =
+    rw (
+      ne-eqb _ 1 (c .before .before .before .before .before .before .if1 .left),
+      ne-eqb _ 2 (c .before .before .before .before .if2 .left),
+      ne-eqb _ 3 (c .before .before .if3 .left),
+      ne-eqb _ 4 (c .if4 .left),
+    )
 
 pub figure-of-spec : {M : Type 1} → statement M
-figure-of-spec = tie.close (tie.spec returns returns-2 returns-3 returns-4)
+figure-of-spec = tie.close (tie.spec returns returns-2 returns-3 returns-4 returns-5)

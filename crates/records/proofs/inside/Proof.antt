@@ -33,6 +33,12 @@ enum-known-f-4 c = search needs
 square-in-requires : tie.Need-square-in-requires
 square-in-requires c κs = search needs
 
+enum-known-f-5 : tie.Need-enum-known-f-5
+enum-known-f-5 c = search needs
+
+circle-in-requires : tie.Need-circle-in-requires
+circle-in-requires c κs = search needs
+
 returns : tie.Need-returns
 returns c = rw (c .before .before .f .given .1, c .point-in .ensures)
 
@@ -44,6 +50,9 @@ returns-3 c = rw (c .before .before .before .f3 .given .1, c .before .point-in4 
 
 returns-4 : tie.Need-returns-4
 returns-4 c = rw (c .before .before .f4 .given .1, c .square-in .ensures)
+
+returns-5 : tie.Need-returns-5
+returns-5 c = rw (c .before .before .f5 .given .1, c .circle-in .ensures)
 
 pub inside-spec : {M : Type 1} → statement M
 inside-spec =
@@ -59,7 +68,10 @@ inside-spec =
     point-in-requires-5
     enum-known-f-4
     square-in-requires
+    enum-known-f-5
+    circle-in-requires
     returns
     returns-2
     returns-3
-    returns-4)
+    returns-4
+    returns-5)

@@ -12,7 +12,7 @@ use Rattle.sheets.proofs.entries_needed.Tie as tie
 
 record Counting (s : List ℕ) (n : ℕ) (m : Room) (need k : ℕ) : Type 0 where
   within : k ≤ 50 * n
-  small : need ≤ 2 + 21 * k
+  small : need ≤ 2 + 161 * k
   total : 2 + sized (figures s m n) ≡ need + sized (figuresFrom s m (50 * n - k) k)
 
 abbrev Inv-loop : tie.InvT-loop

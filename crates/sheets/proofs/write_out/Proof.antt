@@ -14,7 +14,7 @@ use Rattle.sheets.proofs.write_out.Tie as tie
 
 record Writing (out₀ s : List ℕ) (n : ℕ) (m : Room) (t : List ℕ) (p : ℕ) (out : List ℕ) (at k : ℕ) : Type 0 where
   within : k ≤ 50 * n
-  small : at ≤ 2 + 21 * k
+  small : at ≤ 2 + 161 * k
   long : length out ≡ length out₀
   same : placed out₀ 2 (translated t p (figures s m n)) ≡ placed out at (translated t p (figuresFrom s m (50 * n - k) k))
 

@@ -1,0 +1,6 @@
+pub mod OutLaws
+pub mod WayLaws
+pub mod CircleLaws
+pub mod OrderLaws
+pub mod SizeLaws
+pub mod OutsideLaws

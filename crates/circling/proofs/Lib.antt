@@ -1,0 +1,5 @@
+pub mod ArcLaws
+pub mod StrideLaws
+pub mod AxisLaws
+pub mod DrawnLaws
+pub mod ExampleLaws
