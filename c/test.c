@@ -1,4 +1,4 @@
-// Drives the archive from C: the layout of the header, document 01's worked cases, an arc (02, M-100), and every number of refusal.
+// Drives the archive from C: the layout of the header, document 01's worked cases, an arc and circles (02, M-100), every number of refusal.
 // Expected values are 01's and 02's, written by hand. Ends with status 0 and `0 failed`, or says which lines failed. tools/ctest builds
 // and runs it.
 #include "check.h"
@@ -173,6 +173,17 @@ static int dots(void) {
     return n;
 }
 
+// the dots of a circle: for each i those that lie out[i] out, in all eight octants
+static void circle(const char *bytes, int x, int y, const char *lies, int n, int count) {
+    record(bytes); draw(); IS(dots(), count);
+    for (int i = 0; i < n; i++) for (int s = 0; s < 8; s++) {
+        int a = s & 1 ? i : -i, b = s & 2 ? lies[i] : -lies[i];
+        IS(s & 4 ? dot(x + a, y + b) : dot(x + b, y + a), 1);
+    }
+}
+// the arc of DIR 3 of the circle of radius 5 about (20, 10), as it is sent: from the left end, DC 3, D 4, D2 8, D1 -1, DM 1
+static const uint16_t up[20] = {0x149, 0x90, 0x01, 0xF0, 0x178, 0xFF, 0xFF, 0x14C, 0x23, 3, 0, 4, 0, 8, 0, 0xFF, 0x3F, 1, 0, 0x16C};
+
 static void sheets(void) {
     static const uint16_t listing[13] = {0x147, 0x28, 0x123, 0x149, 0x51, 0x00, 0x10, 0x178, 0xFF, 0xFF, 0x14C, 0x02, 0x16C};
     record("\x01\x03\x11\x00\x02\x00\x00\x00\x00\x00");                   // the worked sheet
@@ -188,6 +199,10 @@ static void sheets(void) {
     record("\x02\x03\x02\x00\x01\x00\x00\x00\x00\x00"); draw(); IS(dots(), 3); IS(dot(1, 0), 1);   // K10
     record("\x03\x01\x00\x00\x00\x00\x03\x00\x00\x00"); draw(); IS(dots(), 4);                     // a flat rectangle, COMPLEMENT
     for (int x = 0; x < 4; x++) IS(dot(x, 0), 1);
+    circle("\x05\x03\x14\x00\x0A\x00\x05\x00\x00\x00", 20, 10, "\5\5\5\4", 4, 28);               // M-100: radius 5, SET
+    IS(translate(40, 400, 512, 0, 17000), 0); IS(t.first, 163); IS(memcmp(out + 63, up, sizeof up), 0);
+    circle("\x05\x01\x11\x00\x05\x00\x03\x00\x00\x00", 17, 5, "\3\3\2", 3, 16);                  // octants that meet on the diagonal
+    circle("\x05\x01\x01\x00\x01\x00\x01\x00\x00\x00", 1, 1, "\1", 1, 4);                        // odd arcs that draw nothing
 }
 
 // ---- refusals 1 to 6
@@ -309,11 +324,21 @@ static void sheet_refusals(void) {
     sheet[511] ^= 1; REFUSED(40, 400, 512, 0, 17000, 14, 0, 0);
     record("\x01\x03\x11\x00\x02\x00\x00\x00\x00\x00"); sheet[0] = 1; check_word(0); REFUSED(40, 400, 512, 0, 17000, 15, 0, 0);
     record("\x01\x03\x11\x00\x02\x00\x00\x00\x00\x00"); sheet[14] = 1; check_word(0); REFUSED(40, 400, 512, 0, 17000, 15, 0, 0);
-    record("\x05\x03\x11\x00\x02\x00\x00\x00\x00\x00"); REFUSED(40, 400, 512, 0, 17000, 16, 0, 0);
+    record("\x06\x03\x11\x00\x02\x00\x00\x00\x00\x00"); REFUSED(40, 400, 512, 0, 17000, 16, 0, 0);
     record("\x01\x04\x11\x00\x02\x00\x00\x00\x00\x00"); REFUSED(40, 400, 512, 0, 17000, 16, 0, 0);
     record("\x04\x03\x11\x00\x08\x00\x02\x01\x00\x00"); REFUSED(40, 400, 512, 16, 17000, 17, 0, 0);
     record("\x04\x03\x11\x00\x08\x00\x01\x11\x00\x00"); REFUSED(40, 400, 512, 16, 17000, 18, 0, 0);
     record("\x01\x03\x80\x02\x02\x00\x00\x00\x00\x00"); REFUSED(40, 400, 512, 0, 17000, 19, 0, 0);   // x 640
+    // a circle: its spare bytes, its radius (0 and 2,001), each of its four ends outside, and its 163 entries
+    record("\x05\x03\x14\x00\x0A\x00\x05\x00\x01\x00"); REFUSED(40, 400, 512, 0, 17000, 16, 0, 0);
+    record("\x05\x03\x14\x00\x0A\x00\x00\x00\x00\x00"); REFUSED(40, 400, 512, 0, 17000, 18, 0, 0);
+    record("\x05\x03\x14\x00\x0A\x00\xD1\x07\x00\x00"); REFUSED(40, 400, 512, 0, 17000, 18, 0, 0);
+    record("\x05\x03\x14\x00\x0A\x00\xD0\x07\x00\x00"); REFUSED(40, 400, 512, 0, 17000, 19, 0, 0);
+    record("\x05\x03\x04\x00\x0A\x00\x05\x00\x00\x00"); REFUSED(40, 400, 512, 0, 17000, 19, 0, 0);   // x 4
+    record("\x05\x03\x14\x00\x04\x00\x05\x00\x00\x00"); REFUSED(40, 400, 512, 0, 17000, 19, 0, 0);   // y 4
+    record("\x05\x03\x7B\x02\x0A\x00\x05\x00\x00\x00"); REFUSED(40, 400, 512, 0, 17000, 19, 0, 0);   // x 635
+    record("\x05\x03\x14\x00\x8B\x01\x05\x00\x00\x00"); REFUSED(40, 400, 512, 0, 17000, 19, 0, 0);   // y 395
+    record("\x05\x03\x7A\x02\x8A\x01\x05\x00\x00\x00"); REFUSED(40, 400, 512, 0, 162, 20, 163, 0);   // (634, 394) fits
     record("\x01\x03\x11\x00\x02\x00\x00\x00\x00\x00"); REFUSED(40, 400, 512, 0, 12, 20, 13, 0);
     // two blocks; the second's second record
     record("\x01\x03\x11\x00\x02\x00\x00\x00\x00\x00"); sheet[3] = 0; check_word(0);

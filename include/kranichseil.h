@@ -14,7 +14,7 @@
      11 P, H or P times H out of range                12 glyph bytes not a multiple of 8, or over 2,048
      13 sheet length wrong                            14 a block's check (first: block)
      15 a block's heading, spare bytes or unused records (first: block)
-     16 record's form   17 glyph number   18 factor   19 a dot outside   (first: block, second: record, both from 0)
+     16 record's form   17 glyph number   18 factor or radius   19 a dot outside   (first: block, second: record, both from 0)
      20 output shorter than the translation (first: entries needed)
    Why a run stopped, in `why`: 1 its budget is spent, 2 nothing is in progress or queued, 3 a read awaits room. */
 #ifndef KRANICHSEIL_H
