@@ -3,7 +3,7 @@
 -- follows from 2i² ≤ r². No i and no y is more than r.
 use mathlib.Core.Path.{_≡_, refl, sym, ap, ap₂, _∙_}
 use mathlib.Core.Bool.{Bool, true, false, cond}
-use Prim.Native.Nat.{ℕ, zero, suc, _+_, _-_, _*_, _≤_, _<_}
+use Prim.Native.Nat.{ℕ, zero, suc, _+_, _-_, _*_, _%_, _≤_, _<_}
 use native.Mathlib.Nat.{mul-assoc, mul-le-mul}
 use native.Mathlib.Omega.{arith}
 use native.Mathlib.Decide.{decLt}
@@ -118,6 +118,15 @@ circle-dots r pos = omega (arith, go (coincide r) (coincide-pos r pos))
         → 4 * suc (largest r - cond t 0 0) + 4 * (suc (largest r - cond t 1 0) - 1) ≡ 8 * largest r + cond t 0 4
     go true f = omega (arith, f refl)
     go false f = omega arith
+
+-- "so never at radius 1, where odd arcs have DC 0 and draw nothing"
+pub one-coincides-not : coincide 1 ≡ false
+unfolding coincide circleOut outBelow largest lastBelow
+one-coincides-not = refl
+
+pub one-draws-none : (dir : ℕ) → dir % 2 ≡ 1 → (arcDc 1 dir ≡ 0) × (dotsOf 1 dir ≡ 0)
+unfolding arcDc arcDm coincide circleOut outBelow largest lastBelow
+one-draws-none dir odd = (refl, omega arith)
 
 -- "at most 5,788 dots" in a circle that fits a plane
 pub dots-most : (r : ℕ) → r ≤ 1023 → 8 * largest r + cond (coincide r) 0 4 ≤ 5788
