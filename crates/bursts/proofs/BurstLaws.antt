@@ -17,12 +17,12 @@ use Rattle.walks.specs.Walk.{least, dotted, Led, led, figureWalk, lettered, nex
 use Rattle.walks.proofs.LeastLaws.{is-least}
 use Rattle.bursts.specs.Burst.{Drawn, later, figureBurst, characterBurst, wholeRows, rowsAhead, afterRow}
 
-later-later : (n j : ℕ) (q : Drawn) → later n (later j q) ≡ later (n + j) q
+pub later-later : (n j : ℕ) (q : Drawn) → later n (later j q) ≡ later (n + j) q
 later-later n j q =
     let e : n + (j + q .count) ≡ n + j + q .count = omega arith in
     λ i. record { count = e i; cursor = q .cursor; work = q .work; mem = q .mem }
 
-later-none : (q : Drawn) → q ≡ later 0 q
+pub later-none : (q : Drawn) → q ≡ later 0 q
 later-none q =
     let e : q .count ≡ 0 + q .count = omega arith in λ i. record { count = e i; cursor = q .cursor; work = q .work; mem = q .mem }
 

@@ -20,16 +20,16 @@ pub record Counted (n i : ℕ) : Type 0 where
   pub within : i ≤ n
 
 -- none, one, and one with those after it
-counted-none : {i : ℕ} → i ≡ 0 → Counted 0 i
+pub counted-none : {i : ℕ} → i ≡ 0 → Counted 0 i
 counted-none e = record { some = λ h. absurd (omega arith); within = omega arith }
 
-counted-one : (n : ℕ) {i : ℕ} → i ≡ 1 → Counted (suc n) i
+pub counted-one : (n : ℕ) {i : ℕ} → i ≡ 1 → Counted (suc n) i
 counted-one n e = record { some = λ h. omega arith; within = omega arith }
 
-counted-more : (n : ℕ) {i j : ℕ} → i ≡ 1 + j → Counted n j → Counted (suc n) i
+pub counted-more : (n : ℕ) {i j : ℕ} → i ≡ 1 + j → Counted n j → Counted (suc n) i
 counted-more n e t = record { some = λ h. omega arith; within = omega (arith, t .within) }
 
-count-of : {q v : Drawn} → q ≡ v → q .count ≡ v .count
+pub count-of : {q v : Drawn} → q ≡ v → q .count ≡ v .count
 count-of e = ap (λ (q : Drawn). q .count) e
 
 module _ (b : Brush) where

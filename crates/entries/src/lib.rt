@@ -5,13 +5,15 @@ use records::Point;
 use records::Record;
 ghost use mathlib.Core.Path.{_≡_};
 ghost use mathlib.Core.Bool.{cond};
-ghost use Prim.Native.Nat.{_+_, _*_, _/_, _%_, _-_, _<_, min, max};
+ghost use Prim.Native.Nat.{_+_, _*_, _/_, _%_, _-_, _<_};
 ghost use lib.ListN.{getD, set};
 ghost use Rattle.dots.specs.Operation.{operationNumber};
 ghost use Rattle.circles.specs.Circle.{arcDc, endX, endY};
-ghost use Rattle.entries.specs.Entries.{wdatCode, minus14, distance, dirOf, slopeOf, dotEntries, lineEntries, rectangleEntries};
+ghost use Rattle.entries.specs.Entries.{wdatCode, minus14, dotEntries, lineEntries, rectangleEntries};
 ghost use Rattle.entries.specs.Entries.{glyphEntries, arcEntries, circleEntries};
 ghost use Rattle.entries.specs.Entries.{least, greatest, plain, sizeOf, figureEntries, entriesOf, placed};
+
+mod way;
 
 // The commands of a translation, each its byte + 256: WDAT of a word with the operation to be added, PRAM at address 8.
 const WDAT: u16 = 0x120;
@@ -57,72 +59,6 @@ fn minus(x: u32, n: u32) -> u32
     (x % 16384 + 16384 - n % 16384) % 16384
 }
 
-fn apart(a: u16, b: u16) -> u16
-    ensures { λ r. ⌜ r ≡ distance a b ⌝ }
-{
-    if a < b { b - a } else { a - b }
-}
-
-fn smaller(a: u16, b: u16) -> u16
-    ensures { λ r. ⌜ r ≡ min a b ⌝ }
-{
-    if a < b { a } else { b }
-}
-
-fn larger(a: u16, b: u16) -> u16
-    ensures { λ r. ⌜ r ≡ max a b ⌝ }
-{
-    if a < b { b } else { a }
-}
-
-// The smallest direction that fits.
-fn direction(a: Point, b: Point) -> u8
-    ensures { λ r. ⌜ r ≡ dirOf a b ⌝ }
-{
-    let x = apart(a.x, b.x);
-    let y = apart(a.y, b.y);
-    let right = a.x <= b.x;
-    let left = b.x <= a.x;
-    let down = a.y <= b.y;
-    let up = b.y <= a.y;
-    let tall = x <= y;
-    let wide = y <= x;
-    if right & down & tall {
-        return 0;
-    }
-    if right & down & wide {
-        return 1;
-    }
-    if right & up & wide {
-        return 2;
-    }
-    if right & up & tall {
-        return 3;
-    }
-    if left & up & tall {
-        return 4;
-    }
-    if left & up & wide {
-        return 5;
-    }
-    if left & down & wide {
-        return 6;
-    }
-    7
-}
-
-fn slope_of(a: Point, b: Point) -> Slope
-    ensures { λ r. ⌜ r ≡ slopeOf a b ⌝ }
-{
-    let x = apart(a.x, b.x);
-    let y = apart(a.y, b.y);
-    Slope {
-        dir: direction(a, b),
-        major: larger(x, y),
-        minor: smaller(x, y),
-    }
-}
-
 // CURS's third byte: the dot address and EAD's top.
 fn third(e: u32, x: u32) -> u16
     ensures { λ r. ⌜ r ≡ x % 16 * 16 + e / 65536 % 4 ⌝ }
@@ -154,7 +90,7 @@ fn line_entries(p: u8, a: Point, b: Point) -> [u16; 18]
 {
     let x = a.x as u32;
     let e = word_of(p, x, a.y as u32);
-    let s = slope_of(a, b);
+    let s = way::slope_of(a, b);
     let n = s.major as u32;
     let m = s.minor as u32;
     let d = minus(2 * m, n);
@@ -332,8 +268,8 @@ fn least_of(a: Point, b: Point) -> Point
     ensures { λ r. ⌜ r ≡ least a b ⌝ }
 {
     Point {
-        x: smaller(a.x, b.x),
-        y: smaller(a.y, b.y),
+        x: way::smaller(a.x, b.x),
+        y: way::smaller(a.y, b.y),
     }
 }
 
@@ -341,8 +277,8 @@ fn greatest_of(a: Point, b: Point) -> Point
     ensures { λ r. ⌜ r ≡ greatest a b ⌝ }
 {
     Point {
-        x: larger(a.x, b.x),
-        y: larger(a.y, b.y),
+        x: way::larger(a.x, b.x),
+        y: way::larger(a.y, b.y),
     }
 }
 
@@ -447,7 +383,7 @@ fn put_figure(out: &mut [u16], at: usize, t: &[u8], p: u8, f: Figure)
         Figure::Rectangle(a, b) => put_from(
             out,
             at,
-            &rectangle_entries(p, a, apart(a.x, b.x), apart(a.y, b.y)),
+            &rectangle_entries(p, a, way::apart(a.x, b.x), way::apart(a.y, b.y)),
         ),
         Figure::Glyph {
             at: a,

@@ -17,16 +17,18 @@ use Rattle.registers.specs.declared.Command.{Command}
 use Rattle.registers.specs.declared.Command.the-variants.{Nothing, Reset, Vsync, Cchar, Start, Zoom, Curs, Pram, Pitch, Mask, Figs, Figd}
 use Rattle.registers.specs.declared.Command.the-variants.{Gchrd, Curd, Lprd, Wdat, Rdat, Unknown}
 use Rattle.registers.specs.declared.Work.{Work}
-use Rattle.registers.specs.declared.Work.the-variants.{Idle, Figure, Character, Reading}
+use Rattle.registers.specs.declared.Work.the-variants.{Idle, Figure, Arc, Character, Reading}
+use Rattle.registers.specs.declared.Running.{Running}
 use Rattle.registers.specs.declared.Drawing.{Drawing}
 use Rattle.registers.specs.declared.Buffer.{Buffer}
 use Rattle.registers.specs.declared.Registers.{Registers}
-use Rattle.registers.specs.Size.{plainKind, lineKind, characterKind, rectangleKind, dotsOf, factorOf, rowsOf, columnsOf}
+use Rattle.registers.specs.Size.{plainKind, lineKind, characterKind, arcKind, rectangleKind, dotsOf, arcCyclesOf, factorOf, rowsOf, columnsOf}
 use Rattle.registers.specs.Buffer.{oldest, popped}
 use Rattle.registers.specs.Put.{putBuffer, putProgress}
 use Rattle.registers.specs.State.{State, state}
 use Rattle.commands.specs.Decode.{commandOf}
-use Rattle.processor.specs.Command.{begun, resetDone, figureBegun, characterBegun, readBegun, commandBy, commandTaken}
+use Rattle.processor.specs.Command.{begun, resetDone, figureBegun, figdTaken, characterBegun, readBegun, commandBy, commandTaken}
+use Rattle.arcs.specs.Unit.{arcBegun, arcMoved, arcUnit}
 use Rattle.parameters.specs.Parameter.{ramBy, pitchBy}
 use Rattle.wdat.specs.Wdat.{halfB, setDone, wdatTaken}
 use Rattle.processor.specs.Entry.{counted, parameterBy, parameterTaken, entryTaken}
@@ -49,6 +51,7 @@ longest = 68715282432
 abbrev inWork : Drawing → ℕ → Work → ℕ
 inWork f zoom Idle = 0
 inWork f zoom (Figure k d) = dotsOf f - k
+inWork f zoom (Arc k a) = arcCyclesOf f - k
 inWork f zoom (Character row column start) = rowsOf f zoom * columnsOf f zoom - (row * columnsOf f zoom + column)
 inWork f zoom (Reading i t) = f .dc - i
 
@@ -69,6 +72,10 @@ dots-few f fits =
     either (Few longest) (eqb (f .kind) plainKind || eqb (f .kind) lineKind) (omega (arith, fits .dc))
     (either (Few longest) (eqb (f .kind) rectangleKind) (omega (arith, fits .d, fits .d2)) (omega arith))
 
+cycles-few : (f : Drawing) → DrawingFits f → arcCyclesOf f ≤ longest
+unfolding arcCyclesOf
+cycles-few f fits = either (Few longest) (eqb (f .kind) arcKind) (omega (arith, fits .dc)) (omega arith)
+
 factor-few : (zoom : ℕ) → factorOf zoom ≤ 16
 unfolding factorOf
 factor-few zoom = omega arith
@@ -86,6 +93,7 @@ columns-few f zoom fits = mul-le-mul {n₂ = 16383} {m₂ = 16} (omega (arith, f
 work-few : (f : Drawing) (zoom : ℕ) → DrawingFits f → (w : Work) → inWork f zoom w ≤ longest
 work-few f zoom fits Idle = omega arith
 work-few f zoom fits (Figure k d) = omega (arith, dots-few f fits)
+work-few f zoom fits (Arc k a) = omega (arith, cycles-few f fits)
 work-few f zoom fits (Character row column start) =
     let h : rowsOf f zoom * columnsOf f zoom ≤ longest = mul-le-mul (rows-few f zoom fits) (columns-few f zoom fits) in
     omega arith
@@ -108,7 +116,7 @@ Behind n q = inQueue (q .mode) (q .buffer .count) ≤ n * 68715282433
 
 module _ (r : Registers) (m : List ℕ) (n : ℕ) (behind : Behind n r) where
   command-behind : (c : Command) (b : ℕ) → Behind n (commandBy c b r)
-  unfolding resetDone figureBegun characterBegun readBegun
+  unfolding resetDone figureBegun figdTaken arcBegun characterBegun readBegun
   command-behind Nothing b = behind
   command-behind Reset b = omega arith
   command-behind Vsync b = behind
@@ -120,7 +128,9 @@ module _ (r : Registers) (m : List ℕ) (n : ℕ) (behind : Behind n r) where
   command-behind Pitch b = behind
   command-behind Mask b = behind
   command-behind Figs b = behind
-  command-behind Figd b = either (Behind n) (ltb 0 (dotsOf (r .drawing))) behind behind
+  command-behind Figd b =
+      either (Behind n) (eqb (r .drawing .kind) arcKind) (either (Behind n) (ltb 0 (arcCyclesOf (r .drawing))) behind behind)
+      (either (Behind n) (ltb 0 (dotsOf (r .drawing))) behind behind)
   command-behind Gchrd b =
       either (Behind n) (ltb 0 (rowsOf (r .drawing) (r .video .zoom)) && ltb 0 (columnsOf (r .drawing) (r .video .zoom))) behind behind
   command-behind Curd b = omega arith
@@ -186,6 +196,10 @@ module _ (n : ℕ) (s : State) (w : Whole n s) where
   unfolding figureUnit figureMoved
   figure-less k d h = either (Less (dotsOf (r .drawing) - k)) (ltb (k + 1) (dotsOf (r .drawing))) (omega arith) (omega arith)
 
+  arc-less : (k : ℕ) (a : Running) → k < arcCyclesOf (r .drawing) → Less (arcCyclesOf (r .drawing) - k) (arcUnit k a s .regs)
+  unfolding arcUnit arcMoved
+  arc-less k a h = either (Less (arcCyclesOf (r .drawing) - k)) (ltb (k + 1) (arcCyclesOf (r .drawing))) (omega arith) (omega arith)
+
   character-less : (row column : ℕ) (start : Cursor) → row < rows → column < columns
       → Less (rows * columns - (row * columns + column)) (characterUnit row column start s .regs)
   unfolding characterUnit characterMoved
@@ -238,6 +252,9 @@ module _ (n : ℕ) (s : State) (w : Whole n s) where
   less-by (Figure k d) e h =
       let g : Going (r .drawing) (r .video .zoom) (r .mode) (Figure k d) = rw e at (w .regs .work) in
       figure-less k d (g .place .0)
+  less-by (Arc k a) e h =
+      let g : Going (r .drawing) (r .video .zoom) (r .mode) (Arc k a) = rw e at (w .regs .work) in
+      arc-less k a (g .place .0)
   less-by (Character row column start) e h =
       let g : Going (r .drawing) (r .video .zoom) (r .mode) (Character row column start) = rw e at (w .regs .work) in
       character-less row column start (g .place .0) (g .place .1)

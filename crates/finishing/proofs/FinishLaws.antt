@@ -12,7 +12,7 @@ use borrow.Author.Tests.{eqb-true, eqb-false, eq-eqb, ne-eqb}
 use Rattle.registers.specs.declared.Mode.{Mode}
 use Rattle.registers.specs.declared.Mode.the-variants.{Write, Read}
 use Rattle.registers.specs.declared.Work.{Work}
-use Rattle.registers.specs.declared.Work.the-variants.{Idle, Figure, Character, Reading}
+use Rattle.registers.specs.declared.Work.the-variants.{Idle, Figure, Arc, Character, Reading}
 use Rattle.registers.specs.declared.Registers.{Registers}
 use Rattle.registers.specs.State.{State, state}
 use Rattle.units.specs.Run.{reasonBy, reasonOf, unitsDone, stopped, lengthB, runDone}
@@ -86,6 +86,7 @@ module _ {P : Type 0} (r : Registers) (l : SoundSet r) (waits : Waiting r → P)
   stands-by : (x : Work) → r .work ≡ x → (reasonBy x (r .mode) (r .buffer) ≡ 0 → ⊥) → P
   stands-by Idle e still = idle-by e (r .mode) refl still
   stands-by (Figure k d) e still = absurd (still refl)
+  stands-by (Arc k a) e still = absurd (still refl)
   stands-by (Character row column start) e still = absurd (still refl)
   stands-by (Reading i t) e still =
       let g : Going (r .drawing) (r .video .zoom) (r .mode) (Reading i t) = rw e at (l .work) in

@@ -24,14 +24,14 @@ use Rattle.registers.specs.declared.Pen.{Pen}
 use Rattle.registers.specs.declared.Buffer.{Buffer}
 use Rattle.registers.specs.declared.Registers.{Registers}
 use Rattle.registers.specs.Fresh.{freshDrawing, emptyBuffer}
-use Rattle.registers.specs.Size.{dotsOf, rowsOf, columnsOf}
+use Rattle.registers.specs.Size.{arcKind, dotsOf, rowsOf, columnsOf}
 use Rattle.registers.specs.Sound.{allBelow}
 use Rattle.registers.specs.Put.{putCursor, putVideo, putMode, putBuffer, putProgress, putWork, putDisplay}
 use Rattle.registers.specs.State.{State, state}
 use Rattle.registers.proofs.BoolLaws.{and-left, and-right}
 use Rattle.commands.specs.Decode.{within, commandOf}
-use Rattle.processor.specs.Command.{begun, resetDone, turned, cursorBytes, penBytes, figureBegun, characterBegun, readBegun}
-use Rattle.processor.specs.Command.{commandBy, commandTaken}
+use Rattle.processor.specs.Command.{begun, resetDone, turned, cursorBytes, penBytes, figureBegun, figdTaken, characterBegun}
+use Rattle.processor.specs.Command.{readBegun, commandBy, commandTaken}
 use Rattle.parameters.specs.Parameter.{cursBy, maskBy, figsBy, ramBy, pitchBy, syncBy, ccharBy, zoomBy}
 use Rattle.wdat.specs.Wdat.{halfB, wdatPattern, wdatProgress, setDone, wdatTaken}
 use Rattle.processor.specs.Entry.{nextOf, counted, parameterBy, parameterTaken, entryTaken}
@@ -40,6 +40,7 @@ use Rattle.laws.proofs.SoundLaws.{DrawingFits}
 use Rattle.laws.proofs.KeptLaws.{Queue, SoundSet, Whole, idle, cursor-kept, plain-kept, drawing-kept, ram-kept, video-kept, pen-kept}
 use Rattle.laws.proofs.KeptLaws.{progress-kept, work-kept, turn-kept, cycle-kept}
 use Rattle.laws.proofs.KeptBufferLaws.{bytes-queue, empty-queue}
+use Rattle.laws.proofs.KeptMoveLaws.{arc-begins}
 
 -- ---- commands
 
@@ -100,6 +101,10 @@ module _ (r : Registers) (l : SoundSet r) (e : r .work ≡ Idle) where
         (record { place = (ltb-true 0 (dotsOf (r .drawing)) p, l .drawing .d); mode = write; start = tt }))
         (λ p. l)
 
+    figd-kept : SoundSet (figdTaken r)
+    unfolding figdTaken
+    figd-kept = either SoundSet (eqb (r .drawing .kind) arcKind) (arc-begins r l write) figure-begins
+
     character-begins : SoundSet (characterBegun r)
     unfolding characterBegun
     character-begins =
@@ -130,7 +135,7 @@ module _ (r : Registers) (l : SoundSet r) (e : r .work ≡ Idle) where
     command-by Pitch b = l
     command-by Mask b = l
     command-by Figs b = drawing-kept r l e (freshDrawing (r .drawing)) (fresh-drawing (r .drawing) (l .drawing))
-    command-by Figd b = figure-begins
+    command-by Figd b = figd-kept
     command-by Gchrd b = character-begins
     command-by Curd b = turned-kept (cursorBytes (r .cursor)) (cursor-bytes (r .cursor) (l .cursor))
     command-by Lprd b =

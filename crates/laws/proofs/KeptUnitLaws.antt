@@ -8,7 +8,7 @@ use lib.ListN.{length}
 use Rattle.registers.specs.declared.Mode.{Mode}
 use Rattle.registers.specs.declared.Mode.the-variants.{Write, Read}
 use Rattle.registers.specs.declared.Work.{Work}
-use Rattle.registers.specs.declared.Work.the-variants.{Idle, Figure, Character, Reading}
+use Rattle.registers.specs.declared.Work.the-variants.{Idle, Figure, Arc, Character, Reading}
 use Rattle.registers.specs.Sound.{soundB}
 use Rattle.registers.specs.Buffer.{oldest, popped}
 use Rattle.registers.specs.Put.{putBuffer}
@@ -19,6 +19,7 @@ use Rattle.laws.proofs.BranchLaws.{either}
 use Rattle.laws.proofs.KeptLaws.{Whole, buffer-kept}
 use Rattle.laws.proofs.KeptBufferLaws.{popped-queue}
 use Rattle.laws.proofs.KeptProcessorLaws.{entry-kept}
+use Rattle.laws.proofs.KeptArcLaws.{arc-kept}
 use Rattle.laws.proofs.KeptFigureLaws.{figure-kept, character-kept, read-kept}
 
 -- the state that a run leaves
@@ -45,6 +46,7 @@ module _ (n : ℕ) where
   unit-by : (s : State) → Whole n s → (x : Work) → s .regs .work ≡ x → Whole n (unitBy x s)
   unit-by s w Idle e = fetch-by s w e (s .regs .mode) refl (s .regs .buffer .count)
   unit-by s w (Figure k d) e = figure-kept n k d s w e
+  unit-by s w (Arc k a) e = arc-kept n k a s w e
   unit-by s w (Character row column start) e = character-kept n row column start s w e
   unit-by s w (Reading i t) e = read-kept n i t s w e
 

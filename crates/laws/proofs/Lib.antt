@@ -2,8 +2,10 @@ pub mod BranchLaws
 pub mod SoundLaws
 pub mod KeptLaws
 pub mod KeptBufferLaws
+pub mod KeptMoveLaws
 pub mod KeptProcessorLaws
 pub mod KeptFigureLaws
+pub mod KeptArcLaws
 pub mod KeptUnitLaws
 pub mod KeptPortLaws
 pub mod Kept

@@ -10,7 +10,7 @@ use borrow.Author.Tests.{eqb-true, eqb-false, ne-eqb}
 use Rattle.registers.specs.declared.Mode.{Mode}
 use Rattle.registers.specs.declared.Mode.the-variants.{Write, Read}
 use Rattle.registers.specs.declared.Work.{Work}
-use Rattle.registers.specs.declared.Work.the-variants.{Idle, Figure, Character, Reading}
+use Rattle.registers.specs.declared.Work.the-variants.{Idle, Figure, Arc, Character, Reading}
 use Rattle.registers.specs.declared.Buffer.{Buffer}
 use Rattle.registers.specs.declared.Registers.{Registers}
 use Rattle.registers.specs.Sound.{soundB}
@@ -33,6 +33,7 @@ reason-by : (w : Work) (m : Mode) (b : Buffer) → Reason (reasonBy w m b)
 reason-by Idle Write b = either Reason (eqb (b .count) 0) (omega arith) (omega arith)
 reason-by Idle Read b = omega arith
 reason-by (Figure k d) m b = omega arith
+reason-by (Arc k a) m b = omega arith
 reason-by (Character row column start) m b = omega arith
 reason-by (Reading i t) m b = either Reason (roomB t b) (omega arith) (omega arith)
 
@@ -59,6 +60,7 @@ idle-by : (w : Work) (s : State) → (reasonBy w (s .regs .mode) (s .regs .buffe
 unfolding readUnit
 idle-by Idle s n = fetch-idle (s .regs .mode) s n
 idle-by (Figure k d) s n = absurd (n refl)
+idle-by (Arc k a) s n = absurd (n refl)
 idle-by (Character row column start) s n = absurd (n refl)
 idle-by (Reading i t) s n = cases (λ (x : State). x ≡ s) (roomB t (s .regs .buffer)) (λ u. absurd (n (rw u))) (λ u. refl)
 

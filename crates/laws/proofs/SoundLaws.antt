@@ -12,13 +12,15 @@ use Rattle.dots.specs.Step.{addresses}
 use Rattle.registers.specs.declared.Mode.{Mode}
 use Rattle.registers.specs.declared.Mode.the-variants.{Write, Read}
 use Rattle.registers.specs.declared.Work.{Work}
-use Rattle.registers.specs.declared.Work.the-variants.{Idle, Figure, Character, Reading}
+use Rattle.registers.specs.declared.Work.the-variants.{Idle, Figure, Arc, Character, Reading}
+use Rattle.registers.specs.declared.Running.{Running}
 use Rattle.registers.specs.declared.Drawing.{Drawing}
 use Rattle.registers.specs.declared.Buffer.{Buffer}
 use Rattle.registers.specs.declared.Registers.{Registers}
 use Rattle.registers.specs.Fresh.{freshSet}
-use Rattle.registers.specs.Size.{dotsOf, rowsOf, columnsOf}
-use Rattle.registers.specs.Sound.{allBelow, cursorB, drawingB, penB, progressB, markB, bufferB, placeB, writeB, workB, soundB}
+use Rattle.registers.specs.Size.{dotsOf, arcCyclesOf, rowsOf, columnsOf}
+use Rattle.registers.specs.Sound.{allBelow, cursorB, drawingB, penB, progressB, markB, bufferB, runningB, placeB, writeB}
+use Rattle.registers.specs.Sound.{workB, soundB}
 use Rattle.registers.specs.Typed.{Typed}
 use Rattle.registers.proofs.BoolLaws.{false-true, and-left, and-right}
 
@@ -38,10 +40,17 @@ pub record BufferFits (m : Mode) (b : Buffer) : Type 0 where
   pub each : (i : ℕ) → i < 16 → getD (b .entries) i 0 < 512
   pub held : (i : ℕ) → i < b .count → getD (b .entries) i 0 < markB m
 
+-- the running D, D1 and D2 of an arc within their widths
+pub record RunningFits (a : Running) : Type 0 where
+  pub d : a .d < 16384
+  pub d1 : a .d1 < 16384
+  pub d2 : a .d2 < 16384
+
 -- the place reached is inside its figure or read
 abbrev pub Inside : Drawing → ℕ → Work → Type 0
 Inside f zoom Idle = Unit {0}
 Inside f zoom (Figure k d) = (k < dotsOf f) × (d < 16384)
+Inside f zoom (Arc k a) = (k < arcCyclesOf f) × RunningFits a
 Inside f zoom (Character row column start) = (row < rowsOf f zoom) × (column < columnsOf f zoom) × (start .ead < addresses)
 Inside f zoom (Reading item t) = item < f .dc
 
@@ -49,6 +58,7 @@ Inside f zoom (Reading item t) = item < f .dc
 abbrev pub Suits : Mode → Work → Type 0
 Suits m Idle = Unit {0}
 Suits m (Figure k d) = m ≡ Write
+Suits m (Arc k a) = m ≡ Write
 Suits m (Character row column start) = m ≡ Write
 Suits m (Reading item t) = m ≡ Read
 
@@ -137,10 +147,28 @@ buffer-whole m b s =
       each-below (markB m) (b .count) (b .entries) (s .held),
     )
 
+running-parts : (a : Running) → runningB a ≡ true → RunningFits a
+running-parts a e =
+    let d = ltb (a .d) 16384 in
+    let d1 = ltb (a .d1) 16384 in
+    let d2 = ltb (a .d2) 16384 in
+    let both : (d && d1) ≡ true = and-left (d && d1) d2 e in
+    record {
+      d = ltb-true (a .d) 16384 (and-left d d1 both);
+      d1 = ltb-true (a .d1) 16384 (and-right d d1 both);
+      d2 = ltb-true (a .d2) 16384 (and-right (d && d1) d2 e);
+    }
+
+running-whole : (a : Running) → RunningFits a → runningB a ≡ true
+running-whole a s = rw (lt-ltb (a .d) 16384 (s .d), lt-ltb (a .d1) 16384 (s .d1), lt-ltb (a .d2) 16384 (s .d2))
+
 place-parts : (f : Drawing) (zoom : ℕ) (w : Work) → placeB f zoom w ≡ true → Inside f zoom w
 place-parts f zoom Idle e = tt
 place-parts f zoom (Figure k d) e =
     (ltb-true k (dotsOf f) (and-left (ltb k (dotsOf f)) (ltb d 16384) e), ltb-true d 16384 (and-right (ltb k (dotsOf f)) (ltb d 16384) e))
+place-parts f zoom (Arc k a) e =
+    let inside = ltb k (arcCyclesOf f) in
+    (ltb-true k (arcCyclesOf f) (and-left inside (runningB a) e), running-parts a (and-right inside (runningB a) e))
 place-parts f zoom (Character row column start) e =
     let high = ltb row (rowsOf f zoom) in
     let wide = ltb column (columnsOf f zoom) in
@@ -154,6 +182,7 @@ place-parts f zoom (Reading item t) e = ltb-true item (f .dc) e
 place-whole : (f : Drawing) (zoom : ℕ) (w : Work) → Inside f zoom w → placeB f zoom w ≡ true
 place-whole f zoom Idle p = refl
 place-whole f zoom (Figure k d) p = rw (lt-ltb k (dotsOf f) (p .0), lt-ltb d 16384 (p .1))
+place-whole f zoom (Arc k a) p = rw (lt-ltb k (arcCyclesOf f) (p .0), running-whole a (p .1))
 place-whole f zoom (Character row column start) p =
     rw (lt-ltb row (rowsOf f zoom) (p .0), lt-ltb column (columnsOf f zoom) (p .1), lt-ltb (start .ead) addresses (p .2))
 place-whole f zoom (Reading item t) p = lt-ltb item (f .dc) p
@@ -169,12 +198,14 @@ read-mode Read e = refl
 work-parts : (m : Mode) (w : Work) → workB m w ≡ true → Suits m w
 work-parts m Idle e = tt
 work-parts m (Figure k d) e = write-mode m e
+work-parts m (Arc k a) e = write-mode m e
 work-parts m (Character row column start) e = write-mode m e
 work-parts m (Reading item t) e = read-mode m e
 
 work-whole : (m : Mode) (w : Work) → Suits m w → workB m w ≡ true
 work-whole m Idle p = refl
 work-whole m (Figure k d) p = rw p
+work-whole m (Arc k a) p = rw p
 work-whole m (Character row column start) p = rw p
 work-whole m (Reading item t) p = rw p
 

@@ -9,7 +9,7 @@ use mir.Val.{Val, Fits}
 use denote.Laws.{Is}
 use denote.Struct.Declared.{row}
 use Rattle.registers.specs.declared.Work.{Work}
-use Rattle.registers.specs.declared.Work.the-variants.{Idle, Figure, Character, Reading}
+use Rattle.registers.specs.declared.Work.the-variants.{Idle, Figure, Arc, Character, Reading}
 use Rattle.registers.specs.declared.Registers.{Registers}
 use Rattle.registers.specs.Typed.{StartFits, Typed, Words}
 use Rattle.registers.proofs.Registers.{the-type}
@@ -18,6 +18,7 @@ use Rattle.registers.proofs.Work.{the-field}
 start-fits : (w : Work) (vs : List Val) → Is (the-field .row) (the-field .into w) vs → StartFits w
 start-fits Idle vs g = tt
 start-fits (Figure k d) vs g = tt
+start-fits (Arc k a) vs g = tt
 start-fits (Character y x start) vs g = g .1 .1 .1 .1 .1 .1 .0 .1 .1 .1 .0 .1
 start-fits (Reading i t) vs g = tt
 

@@ -52,12 +52,13 @@ fn print_refusal(a: Answer) {
     sentences::say_refusal(2, a.number, a.first, a.second);
 }
 
-// One byte more than the largest sheet is read, so that a longer one is seen; the largest translation has 2 + 800·21 entries.
+// One byte more than the largest sheet is read, so that a longer one is seen; the largest translation, of 800 circles, has
+// 2 + 800·161 entries.
 fn main() {
     let mut sheet = [0u8; 8193];
     let n = io::read_full(0, &mut sheet);
     let glyphs = [0u8; 0];
-    let mut entries = [0u16; 16802];
+    let mut entries = [0u16; 128802];
     let a = sheets::translate(&sheet[..n], 40, 400, &glyphs, &mut entries);
     if a.number != 0 {
         print_refusal(a);

@@ -13,7 +13,7 @@ use borrow.Author.Tests.{eqb-true, eqb-false, ltb-true, not-true}
 use Rattle.registers.specs.declared.Mode.{Mode}
 use Rattle.registers.specs.declared.Mode.the-variants.{Write, Read}
 use Rattle.registers.specs.declared.Work.{Work}
-use Rattle.registers.specs.declared.Work.the-variants.{Idle, Figure, Character, Reading}
+use Rattle.registers.specs.declared.Work.the-variants.{Idle, Figure, Arc, Character, Reading}
 use Rattle.registers.specs.declared.Buffer.{Buffer}
 use Rattle.registers.specs.declared.Registers.{Registers}
 use Rattle.registers.specs.Fresh.{emptyBuffer}
@@ -80,6 +80,7 @@ module _ (r : Registers) (e : ℕ) (now : atOnceB (r .mode) (r .work) (r .buffer
   idles : (w : Work) → idleB w ≡ true → w ≡ Idle
   idles Idle h = refl
   idles (Figure k d) h = absurd (false-true h)
+  idles (Arc k a) h = absurd (false-true h)
   idles (Character y x start) h = absurd (false-true h)
   idles (Reading i t) h = absurd (false-true h)
 

@@ -1,4 +1,4 @@
-// What a number of refusal means, in document 01's words: the sentence that `listing`, `picture` and `replay` say.
+// What a number of refusal means, in the words of document 01 and of 02's M-100: the sentence that `listing`, `picture` and `replay` say.
 
 // What was refused, and why.
 fn say_meaning(fd: i32, number: u8) -> bool {
@@ -17,7 +17,10 @@ fn say_meaning(fd: i32, number: u8) -> bool {
         ),
         16 => io::write_all(fd, b"a record's form is wrong"),
         17 => io::write_all(fd, b"a record names a glyph that is not in the table"),
-        18 => io::write_all(fd, b"a glyph's factor is not 1 to 16"),
+        18 => io::write_all(
+            fd,
+            b"a glyph's factor is not 1 to 16, or a circle's radius not 1 to 2,000",
+        ),
         19 => io::write_all(fd, b"a dot lies outside the picture"),
         20 => io::write_all(fd, b"the output is shorter than the translation"),
         23 => io::write_all(fd, b"the picture does not fit the memory"),

@@ -95,15 +95,10 @@ module _ (p h glyphs : ℕ) where
   abbrev m : Room
   m = record { across = 16 * p; down = h; glyphs = glyphs }
 
-  by-test : (t : Bool) (f g : Figure) (u v : ℕ → Shape) → Judges p h (insideB m f) u → (t ≡ false → Judges p h (insideB m g) v)
-      → Judges p h (insideB m (cond t f g)) (λ k. cond t (u k) (v k))
-  by-test true f g u v j k = j
-  by-test false f g u v j k = k refl
-
-  by-kind : (t : Bool) (f g : Figure) (u v : ℕ → Shape) → (t ≡ true → Judges p h (insideB m f) u)
+  by-test : (t : Bool) (f g : Figure) (u v : ℕ → Shape) → (t ≡ true → Judges p h (insideB m f) u)
       → (t ≡ false → Judges p h (insideB m g) v) → Judges p h (insideB m (cond t f g)) (λ k. cond t (u k) (v k))
-  by-kind true f g u v j k = j refl
-  by-kind false f g u v j k = k refl
+  by-test true f g u v j k = j refl
+  by-test false f g u v j k = k refl
 
   -- a factor and a radius of 1 or more, as 18 asks
   record Sized (r : Raw) : Type 0 where
@@ -114,10 +109,10 @@ module _ (p h glyphs : ℕ) where
   record-judged : (r : Raw) → Sized r → Judges p h (insideB m (figureOf r)) (recordOn r)
   unfolding figureOf
   record-judged r some =
-      by-test (eqb (r .kind) 1) _ _ _ _ (dot-judged p h (r .x) (r .y))
-      (λ a. by-test (eqb (r .kind) 2) _ _ _ _ (line-judged p h (r .x) (r .y) (r .x1) (r .y1))
-      (λ b. by-test (eqb (r .kind) 3) _ _ _ _ (border-judged p h (r .x) (r .y) (r .x1) (r .y1))
-      (λ c. by-kind (eqb (r .kind) 4) _ _ _ _ (λ d. square-judged (r .x) (r .y) (r .factor) (some .factor (eqb-true _ 4 d)) p h)
+      by-test (eqb (r .kind) 1) _ _ _ _ (λ e. dot-judged p h (r .x) (r .y))
+      (λ a. by-test (eqb (r .kind) 2) _ _ _ _ (λ e. line-judged p h (r .x) (r .y) (r .x1) (r .y1))
+      (λ b. by-test (eqb (r .kind) 3) _ _ _ _ (λ e. border-judged p h (r .x) (r .y) (r .x1) (r .y1))
+      (λ c. by-test (eqb (r .kind) 4) _ _ _ _ (λ d. square-judged (r .x) (r .y) (r .factor) (some .factor (eqb-true _ 4 d)) p h)
       (λ d. circle-judged (r .x) (r .y) (r .x1) (some .radius (eqb-false _ 1 a) (eqb-false _ 2 b) (eqb-false _ 3 c) (eqb-false _ 4 d)) p h))))
 
   sized : (r : Raw) → Formed r → (r .kind ≡ glyphKind → (1 ≤ r .factor) × (r .factor ≤ 16))

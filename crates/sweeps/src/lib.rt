@@ -13,7 +13,13 @@ ghost use Rattle.arcs.specs.Arc.{passed};
 ghost use Rattle.bursts.specs.Burst.{burst};
 ghost use Rattle.sweeps.specs.Sweep.{metBy, swept, arcWalk, arcBurst};
 
-mod place;
+mod bits;
+
+// Where an arc stands whose mask is one bit: the bit address, and the running D, D1 and D2.
+pub struct Place {
+    pub at: u32,
+    pub running: Running,
+}
 
 // The moves of n dots that are passed over: by bit addresses where the mask is one bit.
 fn pass_over(b: Brush, m: Moving, n: u16) -> Moving
@@ -24,7 +30,7 @@ fn pass_over(b: Brush, m: Moving, n: u16) -> Moving
         return arcs::pass(b.drawing.dir, b.pitch, m, n);
     }
     let a = m.running;
-    place::pass_bits(b, a, at, n)
+    bits::pass_bits(b, a, at, n)
 }
 
 // Where cycle k is made.
@@ -61,7 +67,7 @@ fn arc_dots(mem: &mut [u16], b: Brush, from: Moving, i: u32, end: u32) -> Moving
         return plain_arc(mem, b, from, i, end);
     }
     let a = from.running;
-    place::arc_bits(mem, b, a, at, i, end)
+    bits::arc_bits(mem, b, a, at, i, end)
 }
 
 // At most so many units of the arc whose cycle k is next. A dot's pattern bit is told by its number modulo 16.

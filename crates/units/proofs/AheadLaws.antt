@@ -1,4 +1,4 @@
--- Units of a figure or a character done at once are as many units of the run: a dot is one unit, and the run goes on after it.
+-- Units of a figure, an arc or a character done at once are as many units of the run: a dot is one unit, and the run goes on after it.
 use mathlib.Core.Path.{_≡_, refl, sym, ap, _∙_}
 use mathlib.Core.List.{List}
 use Prim.Native.Nat.{ℕ, zero, suc, _+_, _-_, _≤_, _<_}
@@ -8,19 +8,24 @@ use borrow.Author.Tests.{lt-ltb, le-ltb}
 use Rattle.dots.specs.declared.Cursor.{Cursor}
 use Rattle.dots.specs.Step.{stepOf}
 use Rattle.registers.specs.declared.Work.{Work}
-use Rattle.registers.specs.declared.Work.the-variants.{Idle, Figure, Character}
+use Rattle.registers.specs.declared.Running.{Running}
+use Rattle.registers.specs.declared.Work.the-variants.{Idle, Figure, Arc, Character}
 use Rattle.registers.specs.declared.Registers.{Registers}
-use Rattle.registers.specs.Size.{dotsOf}
+use Rattle.registers.specs.Size.{dotsOf, arcCyclesOf}
 use Rattle.registers.specs.Put.{putCursor, putWork}
 use Rattle.registers.specs.State.{State, state}
 use Rattle.figures.specs.Figure.{directionAt, runningD, figureMoved, figureUnit}
 use Rattle.figures.specs.Character.{nextStart, characterMoved, characterUnit}
+use Rattle.arcs.specs.declared.Moving.{Moving}
+use Rattle.arcs.specs.Unit.{arcMoved, arcUnit}
 use Rattle.walks.specs.declared.Brush.{Brush}
 use Rattle.walks.specs.Walk.{dotted, rowsIn, columnsIn, lettered, nextRow}
 use Rattle.bursts.specs.declared.Burst.{Burst}
 use Rattle.bursts.specs.Burst.{Drawn, burst, later, figureBurst, characterBurst, rowsAhead}
 use Rattle.bursts.proofs.BurstLaws.{figure-goes, figure-last, character-goes, character-turns, character-last}
 use Rattle.bursts.proofs.CountLaws.{Counted, figure-counted, character-counted, ahead-counted}
+use Rattle.sweeps.specs.Sweep.{metBy, bent, onBy, arcBurst}
+use Rattle.sweeps.proofs.SweepLaws.{arc-goes, arc-last, arc-counted}
 use Rattle.units.specs.Unit.{unitDone}
 use Rattle.units.specs.Run.{Outcome, reasonOf, runFrom}
 
@@ -35,6 +40,10 @@ run-one b j s h e = let g : b ≡ suc (b - 1) = omega arith in ap (λ (n : ℕ).
 figure-busy : (r : Registers) {k d : ℕ} → r .work ≡ Figure k d → reasonOf r ≡ 0
 unfolding reasonOf
 figure-busy r e = rw e
+
+arc-busy : (r : Registers) {k : ℕ} {a : Running} → r .work ≡ Arc k a → reasonOf r ≡ 0
+unfolding reasonOf
+arc-busy r e = rw e
 
 character-busy : (r : Registers) {y x : ℕ} {s : Cursor} → r .work ≡ Character y x s → reasonOf r ≡ 0
 unfolding reasonOf
@@ -102,6 +111,45 @@ module _ (r : Registers) where
       go (no h) e =
           ap (runFrom (b - 1) (j + 1)) (figure-end k d c m (omega arith))
           ∙ ap (onward b j) (sym (figure-last brush n k d c m (omega arith)))
+
+  -- ---- an arc
+  abbrev standing : Cursor → Running → Moving
+  standing c a = record { running = a; cursor = c }
+
+  abbrev placedAt : Moving → ℕ → List ℕ → State
+  placedAt v k m = placed (v .cursor) (Arc k (v .running)) m
+
+  arc-on : (k : ℕ) (v : Moving) (m : List ℕ) → k + 1 < arcCyclesOf (r .drawing)
+      → unitDone (placedAt v k m) ≡ placedAt (onBy brush (metBy brush k v)) (k + 1) (bent brush k (metBy brush k v) m)
+  unfolding unitDone arcUnit arcMoved
+  arc-on k v m h = rw (lt-ltb (k + 1) (arcCyclesOf (r .drawing)) h)
+
+  arc-end : (k : ℕ) (v : Moving) (m : List ℕ) → arcCyclesOf (r .drawing) ≤ k + 1
+      → unitDone (placedAt v k m) ≡ placed (metBy brush k v .cursor) Idle (bent brush k (metBy brush k v) m)
+  unfolding unitDone arcUnit arcMoved
+  arc-end k v m h = rw (le-ltb (k + 1) (arcCyclesOf (r .drawing)) h)
+
+  arc-runs : (n k : ℕ) (v : Moving) (m : List ℕ) (b j : ℕ) → n ≤ b → runFrom b j (placedAt v k m) ≡ onward b j (arcBurst brush n k v m)
+  unfolding arcBurst
+  arc-runs zero k v m b j l = no-units b j (v .cursor) (Arc k (v .running)) m
+  arc-runs (suc n) k v m b j l =
+      run-one b j (placedAt v k m) (omega arith) (arc-busy (placedAt v k m .regs) refl)
+      ∙ go (decLt (k + 1) (arcCyclesOf (r .drawing)))
+      (arc-runs n (k + 1) (onBy brush (metBy brush k v)) (bent brush k (metBy brush k v) m) (b - 1) (j + 1) (omega arith))
+    where
+      w : Moving
+      w = onBy brush (metBy brush k v)
+
+      t : List ℕ
+      t = bent brush k (metBy brush k v) m
+
+      go : Dec (k + 1 < arcCyclesOf (r .drawing))
+          → runFrom (b - 1) (j + 1) (placedAt w (k + 1) t) ≡ onward (b - 1) (j + 1) (arcBurst brush n (k + 1) w t)
+          → runFrom (b - 1) (j + 1) (unitDone (placedAt v k m)) ≡ onward b j (arcBurst brush (suc n) k v m)
+      go (yes h) e =
+          ap (runFrom (b - 1) (j + 1)) (arc-on k v m h) ∙ e ∙ onward-later b j _ ∙ ap (onward b j) (sym (arc-goes brush n k v m h))
+      go (no h) e =
+          ap (runFrom (b - 1) (j + 1)) (arc-end k v m (omega arith)) ∙ ap (onward b j) (sym (arc-last brush n k v m (omega arith)))
 
   -- ---- a character
   character-on : (y x : ℕ) (s c : Cursor) (m : List ℕ) → x + 1 < columnsIn brush
@@ -183,6 +231,14 @@ module _ (r : Registers) where
       ahead-by b n (b - n) m l (figureBurst brush (b - n) k d (r .cursor) m) h (figure-counted brush (b - n) k d (r .cursor) m)
       (omega arith) (omega arith) (e ∙ ap (λ (v : Brush). figureBurst v (b - n) k d (r .cursor) m) g)
       (ap (runFrom (b - n) n) (same-work m w) ∙ figure-runs (b - n) k d (r .cursor) m (b - n) n (omega arith))
+
+  pub arc-ahead : (b n k : ℕ) (a : Running) (m l : List ℕ) {q : Burst} {u : Brush} → n < b → r .work ≡ Arc k a → u ≡ brush
+      → burst q l ≡ arcBurst u (b - n) k (record { running = a; cursor = r .cursor }) m → Ahead b n m l q
+  arc-ahead b n k a m l h w g e =
+      let v = standing (r .cursor) a in
+      ahead-by b n (b - n) m l (arcBurst brush (b - n) k v m) h (arc-counted brush (b - n) k v m)
+      (omega arith) (omega arith) (e ∙ ap (λ (z : Brush). arcBurst z (b - n) k v m) g)
+      (ap (runFrom (b - n) n) (same-work m w) ∙ arc-runs (b - n) k v m (b - n) n (omega arith))
 
   abbrev letters : Brush → ℕ → ℕ → ℕ → Cursor → List ℕ → Drawn
   letters u most y x s m = characterBurst u (rowsAhead most y x (rowsIn u) (columnsIn u)) y x s (r .cursor) m

@@ -70,6 +70,10 @@ pub fn reason(r: Registers) -> u8
     match work {
         Work::Idle => waiting_reason(mode, buffer),
         Work::Figure { dot: _, d: _ } => 0,
+        Work::Arc {
+            cycle: _,
+            running: _,
+        } => 0,
         Work::Character {
             row: _,
             column: _,
@@ -133,7 +137,7 @@ fn brush_of(r: Registers) -> Brush
     }
 }
 
-// Units until the budget is spent or there is a reason to stop: of a figure and a character many at once.
+// Units until the budget is spent or there is a reason to stop: of a figure, an arc and a character many at once.
 pub fn run_on(r: Registers, mem: &mut [u16], budget: u32) -> Ran
     ensures { λ q. ⌜ outcome q (now (mem .exit)) ≡ runFrom budget 0 (state r (now (mem .entry))) ⌝ }
 {
@@ -148,6 +152,13 @@ pub fn run_on(r: Registers, mem: &mut [u16], budget: u32) -> Ran
         match work {
             Work::Figure { dot, d } => {
                 let q = bursts::figure(mem, brush_of(s), s.cursor, dot, d, budget - n);
+                let at = q.cursor;
+                let next = q.work;
+                s = figures::goes_on(s, at, next);
+                n += q.count;
+            }
+            Work::Arc { cycle, running } => {
+                let q = sweeps::arc(mem, brush_of(s), s.cursor, cycle, running, budget - n);
                 let at = q.cursor;
                 let next = q.work;
                 s = figures::goes_on(s, at, next);

@@ -1,6 +1,6 @@
 -- `run_on`: after n units, what is left to do from here is what was to do from the start; many units at once are as many (`figure-ahead`,
--- `character-ahead`).
-use Rattle.units.proofs.AheadLaws.{figure-ahead, character-ahead, goes-ahead}
+-- `arc-ahead`, `character-ahead`).
+use Rattle.units.proofs.AheadLaws.{figure-ahead, arc-ahead, character-ahead, goes-ahead}
 use Rattle.units.proofs.RunLaws.{run-starts, run-ends, run-stops, run-goes-on}
 use Rattle.units.proofs.UnitLaws.{unit-by}
 use Rattle.units.specs.Run.{runFrom}
@@ -97,11 +97,11 @@ enum-known-work-2 c = search needs
 brush-of-requires-2 : tie.Need-brush-of-requires-2 Inv-loop μ-loop
 brush-of-requires-2 c κs = search needs
 
-sub-character : tie.Need-sub-character Inv-loop μ-loop
-sub-character c = search needs
+sub-arc : tie.Need-sub-arc Inv-loop μ-loop
+sub-arc c = search needs
 
-character-requires : tie.Need-character-requires Inv-loop μ-loop
-character-requires c κs = search needs
+arc-requires : tie.Need-arc-requires Inv-loop μ-loop
+arc-requires c κs = search needs
 
 goes-on-requires-2 : tie.Need-goes-on-requires-2 Inv-loop μ-loop
 goes-on-requires-2 c κs = search needs
@@ -112,62 +112,87 @@ add-n-2 c =
     omega (
       arith,
       w .before .before .before .before .before .before .before .fits,
-      character-ahead (w .before .before .before .before .before .loop .s) _ _ _ _ _ _ _
-          (w .before .before .before .before .loop-test .taken) (w .work2 .given .1)
-          (c .before .before .before .before .before .before .before .brush-of2 .ensures)
-          (c .before .before .before .before .before .character .ensures) .within,
+      arc-ahead (w .before .before .before .before .before .loop .s) _ _ _ _ _ _ (w .before .before .before .before .loop-test .taken)
+          (w .work2 .given .1) (c .before .before .before .before .before .before .brush-of2 .ensures)
+          (c .before .before .before .before .before .arc .ensures) .within,
     )
 
 loop-less-2 : tie.Need-loop-less-2 Inv-loop μ-loop
 loop-less-2 c =
     let w = c .before .before .before .before .before .before .before .before .before in
-    let v = character-ahead (w .before .before .before .before .before .loop .s) _ _ _ _ _ _ _
+    let v = arc-ahead (w .before .before .before .before .before .loop .s) _ _ _ _ _ _
     (w .before .before .before .before .loop-test .taken) (w .work2 .given .1)
-    (c .before .before .before .before .before .before .before .brush-of2 .ensures)
-    (c .before .before .before .before .before .character .ensures) in
+    (c .before .before .before .before .before .before .brush-of2 .ensures)
+    (c .before .before .before .before .before .arc .ensures) in
     omega (arith, v .some, v .within)
 
 loop-again-2 : tie.Need-loop-again-2 Inv-loop μ-loop
 loop-again-2 c =
     let w = c .before .before .before .before .before .before .before .before .before in
-    let v = character-ahead (w .before .before .before .before .before .loop .s) _ _ _ _ _ _ _
+    let v = arc-ahead (w .before .before .before .before .before .loop .s) _ _ _ _ _ _
     (w .before .before .before .before .loop-test .taken) (w .work2 .given .1)
-    (c .before .before .before .before .before .before .before .brush-of2 .ensures)
-    (c .before .before .before .before .before .character .ensures) in
+    (c .before .before .before .before .before .before .brush-of2 .ensures)
+    (c .before .before .before .before .before .arc .ensures) in
     record {
       within = v .within;
-      long = c .before .before .before .before .before .character .kept .0 ∙ w .before .before .before .before .before .loop .inv .long;
+      long = c .before .before .before .before .before .arc .kept .0 ∙ w .before .before .before .before .before .loop .inv .long;
       same = w .before .before .before .before .before .loop .inv .same ∙ goes-ahead _ _ _ _ _ v (c .before .goes-on2 .ensures);
     }
 
 enum-known-work-3 : tie.Need-enum-known-work-3 Inv-loop μ-loop
 enum-known-work-3 c = search needs
 
-read-unit-requires : tie.Need-read-unit-requires Inv-loop μ-loop
-read-unit-requires c κs = search needs
+brush-of-requires-3 : tie.Need-brush-of-requires-3 Inv-loop μ-loop
+brush-of-requires-3 c κs = search needs
+
+sub-character : tie.Need-sub-character Inv-loop μ-loop
+sub-character c = search needs
+
+character-requires : tie.Need-character-requires Inv-loop μ-loop
+character-requires c κs = search needs
+
+goes-on-requires-3 : tie.Need-goes-on-requires-3 Inv-loop μ-loop
+goes-on-requires-3 c κs = search needs
 
 add-n-3 : tie.Need-add-n-3 Inv-loop μ-loop
-add-n-3 c = search needs
+add-n-3 c =
+    let w = c .before .before .before .before .before .before .before .before .before in
+    omega (
+      arith,
+      w .before .before .before .before .before .before .before .fits,
+      character-ahead (w .before .before .before .before .before .loop .s) _ _ _ _ _ _ _
+          (w .before .before .before .before .loop-test .taken) (w .work3 .given .1)
+          (c .before .before .before .before .before .before .before .brush-of3 .ensures)
+          (c .before .before .before .before .before .character .ensures) .within,
+    )
 
 loop-less-3 : tie.Need-loop-less-3 Inv-loop μ-loop
-loop-less-3 c = omega arith
+loop-less-3 c =
+    let w = c .before .before .before .before .before .before .before .before .before in
+    let v = character-ahead (w .before .before .before .before .before .loop .s) _ _ _ _ _ _ _
+    (w .before .before .before .before .loop-test .taken) (w .work3 .given .1)
+    (c .before .before .before .before .before .before .before .brush-of3 .ensures)
+    (c .before .before .before .before .before .character .ensures) in
+    omega (arith, v .some, v .within)
 
 loop-again-3 : tie.Need-loop-again-3 Inv-loop μ-loop
-loop-again-3 c = let l = c .before .before .before .before .before .before .before .before .before .before .loop in
+loop-again-3 c =
+    let w = c .before .before .before .before .before .before .before .before .before in
+    let v = character-ahead (w .before .before .before .before .before .loop .s) _ _ _ _ _ _ _
+    (w .before .before .before .before .loop-test .taken) (w .work3 .given .1)
+    (c .before .before .before .before .before .before .before .brush-of3 .ensures)
+    (c .before .before .before .before .before .character .ensures) in
     record {
-      within = omega arith;
-      long = c .before .before .read-unit .kept .1 .1 .1 .0 ∙ l .inv .long;
-      same = l .inv .same ∙ run-goes-on _ _ _ (c .before .before .before .before .before .before .before .before .before .loop-test .taken)
-          (c .before .before .before .before .before .before .before .before .reason .ensures)
-          (c .before .before .before .before .before .before .before .if1 .left)
-          (unit-by _ _ (c .before .before .before .before .before .work3 .given .1) (c .before .before .read-unit .ensures));
+      within = v .within;
+      long = c .before .before .before .before .before .character .kept .0 ∙ w .before .before .before .before .before .loop .inv .long;
+      same = w .before .before .before .before .before .loop .inv .same ∙ goes-ahead _ _ _ _ _ v (c .before .goes-on3 .ensures);
     }
 
-enum-told : tie.Need-enum-told Inv-loop μ-loop
-enum-told c = search needs
+enum-known-work-4 : tie.Need-enum-known-work-4 Inv-loop μ-loop
+enum-known-work-4 c = search needs
 
-idle-unit-requires : tie.Need-idle-unit-requires Inv-loop μ-loop
-idle-unit-requires c κs = search needs
+read-unit-requires : tie.Need-read-unit-requires Inv-loop μ-loop
+read-unit-requires c κs = search needs
 
 add-n-4 : tie.Need-add-n-4 Inv-loop μ-loop
 add-n-4 c = search needs
@@ -176,7 +201,30 @@ loop-less-4 : tie.Need-loop-less-4 Inv-loop μ-loop
 loop-less-4 c = omega arith
 
 loop-again-4 : tie.Need-loop-again-4 Inv-loop μ-loop
-loop-again-4 c = let l = c .before .before .before .before .before .before .before .before .before .loop in
+loop-again-4 c = let l = c .before .before .before .before .before .before .before .before .before .before .loop in
+    record {
+      within = omega arith;
+      long = c .before .before .read-unit .kept .1 .1 .1 .0 ∙ l .inv .long;
+      same = l .inv .same ∙ run-goes-on _ _ _ (c .before .before .before .before .before .before .before .before .before .loop-test .taken)
+          (c .before .before .before .before .before .before .before .before .reason .ensures)
+          (c .before .before .before .before .before .before .before .if1 .left)
+          (unit-by _ _ (c .before .before .before .before .before .work4 .given .1) (c .before .before .read-unit .ensures));
+    }
+
+enum-told : tie.Need-enum-told Inv-loop μ-loop
+enum-told c = search needs
+
+idle-unit-requires : tie.Need-idle-unit-requires Inv-loop μ-loop
+idle-unit-requires c κs = search needs
+
+add-n-5 : tie.Need-add-n-5 Inv-loop μ-loop
+add-n-5 c = search needs
+
+loop-less-5 : tie.Need-loop-less-5 Inv-loop μ-loop
+loop-less-5 c = omega arith
+
+loop-again-5 : tie.Need-loop-again-5 Inv-loop μ-loop
+loop-again-5 c = let l = c .before .before .before .before .before .before .before .before .before .loop in
     record {
       within = omega arith;
       long = c .before .before .idle-unit .kept .1 .0 ∙ l .inv .long;
@@ -216,22 +264,30 @@ run-on-spec =
     loop-again
     enum-known-work-2
     brush-of-requires-2
-    sub-character
-    character-requires
+    sub-arc
+    arc-requires
     goes-on-requires-2
     add-n-2
     loop-less-2
     loop-again-2
     enum-known-work-3
-    read-unit-requires
+    brush-of-requires-3
+    sub-character
+    character-requires
+    goes-on-requires-3
     add-n-3
     loop-less-3
     loop-again-3
-    enum-told
-    idle-unit-requires
+    enum-known-work-4
+    read-unit-requires
     add-n-4
     loop-less-4
     loop-again-4
+    enum-told
+    idle-unit-requires
+    add-n-5
+    loop-less-5
+    loop-again-5
     stops-requires-2
     same-length-2
     returns-2)

@@ -1,4 +1,5 @@
 // An arc whose mask is one bit: by its bit address.
+use crate::Place;
 use arcs::Moving;
 use dots::Cursor;
 use dots::Operation;
@@ -12,12 +13,6 @@ ghost use Rattle.dots.specs.Dot.{cursorAt};
 ghost use Rattle.arcs.specs.Arc.{passed};
 ghost use Rattle.sweeps.specs.Sweep.{swept, arcWalk};
 ghost use Rattle.sweeps.specs.Place.{placeOn, placePassed, placed, placeWalk};
-
-// The bit address, and the running D, D1 and D2.
-pub(crate) struct Place {
-    at: u32,
-    running: Running,
-}
 
 // One move.
 fn place_on(axis: u32, diagonal: u32, p: Place) -> Place

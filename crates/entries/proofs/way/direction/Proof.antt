@@ -2,8 +2,8 @@
 use Rattle.entries.specs.Entries.{dirOf}
 use Rattle.entries.proofs.SlopeLaws.{dir-first}
 use borrow.Author.Needs.{needs}
-use Rattle.entries.proofs.direction.Statement.{statement}
-use Rattle.entries.proofs.direction.Tie as tie
+use Rattle.entries.proofs.way.direction.Statement.{statement}
+use Rattle.entries.proofs.way.direction.Tie as tie
 
 apart-requires : tie.Need-apart-requires
 apart-requires c κs = search needs

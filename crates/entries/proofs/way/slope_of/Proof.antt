@@ -1,8 +1,8 @@
 -- `slope_of` gives `slopeOf`: field by field what the calls give.
 use Rattle.entries.specs.Entries.{slopeOf}
 use borrow.Author.Needs.{needs}
-use Rattle.entries.proofs.slope_of.Statement.{statement}
-use Rattle.entries.proofs.slope_of.Tie as tie
+use Rattle.entries.proofs.way.slope_of.Statement.{statement}
+use Rattle.entries.proofs.way.slope_of.Tie as tie
 
 apart-requires : tie.Need-apart-requires
 apart-requires c κs = search needs
