@@ -302,7 +302,7 @@ static void count(const char *folder, const char *name, const char *how, int num
 }
 
 int main(int words, char **word) {
-    static const char *const names[] = {"lines", "rects", "glyphs", "fills", "masks", "patterns", "enlarged", "reads"};
+    static const char *const names[] = {"lines", "rects", "glyphs", "fills", "masks", "patterns", "enlarged", "reads", "circles", "passed"};
     if (words == 6 && !strcmp(word[1], "count")) {
         count(word[2], word[3], word[4], atoi(word[5]));
         return 0;

@@ -23,10 +23,13 @@ static uint32_t figure_dots(const struct hand *h) {
     }
 }
 
+/* An arc's dots from DM to DC. */
+static uint32_t arc_cycles(const struct hand *h) { return h->type == 4 && h->dm <= h->dc ? h->dc + 1u - h->dm : 0; }
+
 /* "A sound register set has every field within its width, at most 16 buffered entries, the place reached inside .." */
 static bool sound(const struct hand *h) {
     if (h->ead >> 18 || h->pen >> 18 || h->start_ead >> 18 || h->type >> 5 || h->dir >> 3 || h->op >> 2) return false;
-    if ((h->dc | h->d | h->d2 | h->d1 | h->dm | h->running) >> 14) return false;
+    if ((h->dc | h->d | h->d2 | h->d1 | h->dm | h->running | h->run1 | h->run2) >> 14) return false;
     if (h->count > 16 || h->oldest > 15 || h->next > 16) return false;
     uint16_t all = 0;
     for (int i = 0; i < 16; i++) all |= h->entries[i];
@@ -34,6 +37,7 @@ static bool sound(const struct hand *h) {
     switch (h->work) {
     case IDLE: return true;
     case FIGURE: return !h->read_mode && h->dot < figure_dots(h);
+    case ARC: return !h->read_mode && h->dot < arc_cycles(h);
     case CHARACTER: return !h->read_mode && h->row < rows(h) && h->column < columns(h);
     case READING: return h->read_mode && h->item < h->dc;
     default: return false;
@@ -193,6 +197,71 @@ static inline __attribute__((always_inline)) uint32_t draw_sides(struct hand *h,
     return k - first;
 }
 
+/* An arc in locals, each of its own. D, D1 and D2 run past their 14 bits here: bit 13 and those below it are as if they did not, and they
+   are cut where they are stored. */
+struct arc {
+    uint32_t ead, mask, d, d1, d2;
+    struct step axis, diagonal;
+};
+
+static struct arc arc_of(const struct hand *h) {
+    const struct step axis = step_along(h->dir + (h->dir & 1u), h->pitch), diagonal = step_along(h->dir | 1u, h->pitch);
+    return (struct arc){h->ead, h->mask, h->running, h->run1, h->run2, axis, diagonal};
+}
+
+static void keep(struct hand *h, const struct arc *a) {
+    h->ead = a->ead & 0x3FFFF;
+    h->mask = (uint16_t)a->mask;
+    h->running = a->d & 0x3FFF;
+    h->run1 = a->d1 & 0x3FFF;
+    h->run2 = a->d2 & 0x3FFF;
+}
+
+static inline __attribute__((always_inline)) void step_on(struct arc *a, struct step s) {
+    a->ead += s.lines;
+    if (s.side > 0) {
+        a->ead += a->mask >> 15;
+        a->mask = (a->mask << 1 | a->mask >> 15) & 0xFFFF;
+    } else if (s.side < 0) {
+        a->ead -= a->mask & 1;
+        a->mask = (a->mask >> 1 | a->mask << 15) & 0xFFFF;
+    }
+}
+
+static inline __attribute__((always_inline)) void move_on(struct arc *a) {
+    a->d += a->d1;
+    a->d1 -= 2;
+    if (a->d & 0x2000) {
+        step_on(a, a->diagonal);
+        a->d += a->d2;
+        a->d2 -= 2;
+    } else {
+        step_on(a, a->axis);
+    }
+}
+
+/* "The mask and cursor move on passed-over dots, .. in the unit that meets the next dot": before the first cycle. */
+static inline __attribute__((always_inline)) uint32_t draw_arc(struct hand *h, uint16_t *mem, uint32_t fold, uint32_t budget, uint8_t op) {
+    const uint16_t word = h->ram[8] | h->ram[9] << 8;
+    const uint32_t cycles = arc_cycles(h), first = h->dot, stop = cycles - first < budget ? cycles : first + budget, dm = h->dm;
+    struct arc a = arc_of(h);
+    uint32_t k = first;
+    for (uint32_t over = first ? 0 : dm; over; over--) move_on(&a);
+    for (;;) {
+        mem[a.ead & fold] = combined(op, mem[a.ead & fold], (uint16_t)a.mask, word >> ((dm + k) & 15) & 1 ? 0xFFFF : 0);
+        k++;
+        if (k == cycles) {
+            h->work = IDLE;
+            break;
+        }
+        move_on(&a);
+        if (k == stop) break;
+    }
+    keep(h, &a);
+    h->dot = k;
+    return k - first;
+}
+
 static inline __attribute__((always_inline)) uint32_t draw_character(struct hand *h, uint16_t *mem, uint32_t fold, uint32_t budget, uint8_t op) {
     const uint32_t g = factor(h), across = columns(h), down = rows(h);
     const struct step along = step_along(h->dir, h->pitch), next_row = step_along(h->dir + 2u, h->pitch);
@@ -234,7 +303,18 @@ static inline uint32_t draw_with(struct hand *h, uint16_t *mem, uint32_t fold, u
     return h->type == 1 ? draw_line(h, mem, fold, budget, op) : draw_sides(h, mem, fold, budget, op);
 }
 
+/* Arcs apart from the others, so that each has the machine's registers to itself. */
+static __attribute__((noinline)) uint32_t draw_arcs(struct hand *h, uint16_t *mem, uint32_t fold, uint32_t budget) {
+    switch (h->op) {
+    case 0: return draw_arc(h, mem, fold, budget, 0);
+    case 1: return draw_arc(h, mem, fold, budget, 1);
+    case 2: return draw_arc(h, mem, fold, budget, 2);
+    default: return draw_arc(h, mem, fold, budget, 3);
+    }
+}
+
 static uint32_t draw(struct hand *h, uint16_t *mem, uint32_t fold, uint32_t budget) {
+    if (h->work == ARC) return draw_arcs(h, mem, fold, budget);
     switch (h->op) {
     case 0: return draw_with(h, mem, fold, budget, 0);
     case 1: return draw_with(h, mem, fold, budget, 1);
@@ -270,6 +350,20 @@ static uint8_t known(uint8_t b) {
     }
 }
 
+static void begin_figure(struct hand *h) {
+    h->dot = 0;
+    h->running = h->d, h->run1 = h->d1, h->run2 = h->d2;
+    if (figure_dots(h)) {
+        h->work = FIGURE;
+    } else if (arc_cycles(h)) {
+        h->work = ARC;
+    } else if (h->type == 4) { /* "or that takes FIGD if no dot is left to draw; .. and the DC moves are made" */
+        struct arc a = arc_of(h);
+        for (uint32_t over = h->dc; over; over--) move_on(&a);
+        keep(h, &a);
+    }
+}
+
 static void take_command(struct hand *h, uint8_t b) {
     h->command = known(b);
     h->next = h->command == PRAM ? b & 15 : 0;
@@ -291,13 +385,7 @@ static void take_command(struct hand *h, uint8_t b) {
     switch (b) {
     case 0x6E: case 0x6F: h->vsync = b & 1; return;
     case 0x6B: h->display = true; return;
-    case 0x6C:
-        if (figure_dots(h)) {
-            h->work = FIGURE;
-            h->dot = 0;
-            h->running = h->d;
-        }
-        return;
+    case 0x6C: begin_figure(h); return;
     case 0x68:
         if (rows(h) && columns(h)) {
             h->work = CHARACTER;
@@ -391,7 +479,7 @@ int hand_run(struct hand *h, uint16_t *mem, size_t length, uint32_t budget, uint
     uint32_t n = 0;
     *why = 1;
     while (n < budget) {
-        if (h->work == FIGURE || h->work == CHARACTER) {
+        if (h->work == FIGURE || h->work == ARC || h->work == CHARACTER) {
             n += draw(h, mem, fold, budget - n);
         } else if (h->work == READING) {
             if (!room(h)) {

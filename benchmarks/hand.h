@@ -1,10 +1,10 @@
-/* The controller as one would write it by hand in C, from document 01: the measure that the proved run is held against. */
+/* The controller as one would write it by hand in C, from document 01 and M-100: the measure that the proved run is held against. */
 #ifndef HAND_H
 #define HAND_H
 #include <stddef.h>
 #include <stdint.h>
 
-enum hand_work { IDLE, FIGURE, CHARACTER, READING };
+enum hand_work { IDLE, FIGURE, ARC, CHARACTER, READING };
 
 struct hand {
     uint32_t ead;
@@ -26,8 +26,9 @@ struct hand {
     uint8_t next;    /* where its next parameter goes, to 16 */
     uint8_t low;     /* of a half-sent WDAT word */
     enum hand_work work;
-    uint32_t dot;         /* FIGURE: the dot reached, */
-    uint16_t running;     /* and the copy of D */
+    uint32_t dot;         /* FIGURE: the dot reached; ARC: the cycles done; */
+    uint16_t running;     /* the copy of D, */
+    uint16_t run1, run2;  /* ARC: and those of D1 and D2 */
     uint32_t row, column; /* CHARACTER: the place reached, and where its row started */
     uint32_t start_ead;
     uint16_t start_mask;

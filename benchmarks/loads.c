@@ -128,6 +128,27 @@ static void reads(void) {
     made.reads = true;
 }
 
+/* An arc of so large a circle, from where the cursor stands. */
+static void arc(unsigned dir, unsigned radius, unsigned dc, unsigned dm) {
+    const char head[] = {0x4C, (char)(0x20 | dir)};
+    add(head, sizeof head);
+    number(dc), number(radius - 1), number(2 * (radius - 1)), number(0x3FFF), number(dm);
+    ADD("\x6C");
+}
+
+/* Octants of radius 4,000 that are passed over, in each direction two: one up to its last dot, which is drawn, and one to its end, where
+   a dot is drawn for it. */
+static void passed(void) {
+    const unsigned radius = 4000, octant = 2828;
+    ADD("\x47\xFF"), ADD("\x78\xFF\xFF"), ADD("\x21");
+    for (unsigned dir = 0; dir < 8; dir++) {
+        at(2000 + dir, 500), arc(dir, radius, octant, octant);
+        at(2000 + dir, 600), arc(dir, radius, octant, octant + 1);
+        ADD("\x4C\x02"), ADD("\x6C");
+        made.steps += 2 * octant;
+    }
+}
+
 /* ---- the loads by name */
 
 static void begin(const char *name, const char *of, double goal) {
@@ -143,6 +164,8 @@ struct load *load_named(const char *folder, const char *name) {
     else if (!strcmp(name, "patterns")) begin("patterns", "dot", 0), figures(false);
     else if (!strcmp(name, "enlarged")) begin("enlarged", "dot", 0), enlarged();
     else if (!strcmp(name, "reads")) begin("reads", "item", 0), reads();
+    else if (!strcmp(name, "circles")) begin("circles", "dot", 0), translated(&made, sheet_of(folder, "circles.sheet", 16, 255, 1028));
+    else if (!strcmp(name, "passed")) begin("passed", "step", 0), passed();
     else if (!strncmp(name, "line", 4)) begin("line", "dot", 0), two_lines((unsigned)atoi(name + 4));
     else if (!strncmp(name, "sheet", 5))
         begin("sheet", "dot", 0), translated(&made, sheet_of(folder, "glyphs.sheet", atoi(name + 5), 40, 400));
@@ -150,8 +173,10 @@ struct load *load_named(const char *folder, const char *name) {
     return &made;
 }
 
-/* Each entry has a unit, each dot and each item read one more. A word written has none of its own. */
+/* Each entry has a unit, each dot and each item read one more. A word written has none of its own, nor has a dot that is passed over; of
+   these a load is counted whole. */
 unsigned long long items_of(const struct load *l, size_t count, unsigned long long units) {
+    if (l->steps) return count < l->count ? 0 : l->steps;
     if (*l->of == 'w') return count < 10 ? 0 : (count - 10) / 2;
     return units - count;
 }

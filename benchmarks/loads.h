@@ -4,7 +4,7 @@
 #include <stddef.h>
 #include <stdint.h>
 
-enum { MOST = 16802 }; /* entries: the longest translation */
+enum { MOST = 128802 }; /* entries: the longest translation, of 800 circles */
 
 struct load {
     const char *name, *of; /* what one of its items is */
@@ -12,10 +12,11 @@ struct load {
     bool reads;            /* it has RDAT: its bytes are read before what follows is sent */
     uint16_t entries[MOST];
     size_t count;
+    unsigned steps;        /* of its arcs, all together, that are passed over; 0: its items are counted by units */
 };
 
-/* The load of that name, made from FOLDER's sheets: lines, rects, glyphs, fills, masks, patterns, enlarged, reads; lineN, two lines of
-   N dots; sheetN, the first N blocks of glyphs.sheet. NULL for another name. */
+/* The load of that name, made from FOLDER's sheets: lines, rects, glyphs, fills, masks, patterns, enlarged, reads, circles,
+   passed; lineN, two lines of N dots; sheetN, the first N blocks of glyphs.sheet. NULL for another name. */
 struct load *load_named(const char *folder, const char *name);
 
 /* How many items the first `count` entries are, which took so many units. */

@@ -1,8 +1,8 @@
 """The figures: how FIGD and GCHRD begin, what one cycle does, which way they step.
 
-A part of the SECOND PROGRAM, written from the paper alone (see chip.py). The
-class `Figures` holds the functions of the controller that draw; `Chip` in
-chip.py is made upon it.
+A part of the SECOND PROGRAM, written from the paper alone (see chip.py); the
+sentences about arcs are those of request M-100. The class `Figures` holds the
+functions of the controller that draw; `Chip` in chip.py is made upon it.
 """
 
 from steps import step
@@ -11,12 +11,14 @@ from steps import step
 class Figure:
     """A figure in progress: "Figures and reads work on copies of DC to DM."
 
-    `dots` is how many dots it has, `place` how many of them are done.
+    `dots` is how many dots it has, `place` how many of them are done. An arc
+    has `passed` dots before them, which it passes over.
     """
 
-    def __init__(self, chip, kind, dots):
+    def __init__(self, chip, kind, dots, passed=0):
         self.kind = kind
         self.dots = dots
+        self.passed = passed
         self.place = 0
         self.direction = chip.figs & 7
         self.dc, self.d, self.d2 = chip.dc, chip.d, chip.d2
@@ -40,6 +42,26 @@ class Figures:
         elif figure_type == 0b01000:
             # "R: four sides ... of D, D2, D, D2 dots"
             self.start_figure("rectangle", 2 * self.d + 2 * self.d2)
+        elif figure_type == 0b00100:
+            # "FIGD with the A bit alone draws an arc"
+            self.start_arc()
+
+    def start_arc(self):
+        # "for i = 0 to DC, dots with i below DM are passed over without a
+        # cycle". DC and DM are unsigned: "up to 16,383 steps".
+        dots = self.dc + 1 - self.dm
+        if dots > 0:
+            self.start_figure("arc", dots, self.dm)
+        else:
+            self.start_figure("arc", 0)
+            # "The mask and cursor move on passed-over dots, ... in the unit
+            # ... that takes FIGD if no dot is left to draw; there 01's
+            # "changes nothing more" gives way and the DC moves are made."
+            self.arc_moves(Figure(self, "arc", 0), self.dc)
+
+    def arc_moves(self, figure, moves):
+        for _ in range(moves):
+            self.figure_step(figure)
 
     def start_gchrd(self):
         # "GC by GCHRD: with factor g (ZOOM's low nibble + 1), (DC + 1)·g
@@ -48,17 +70,21 @@ class Figures:
             factor = (self.zoom & 15) + 1
             self.start_figure("character", (self.dc + 1) * factor * self.d * factor)
 
-    def start_figure(self, kind, dots):
+    def start_figure(self, kind, dots, passed=0):
         # "A figure of no dots ... changes nothing more and ends in the unit
         # that takes its command."
         if dots > 0:
-            self.figure = Figure(self, kind, dots)
+            self.figure = Figure(self, kind, dots, passed)
 
     def figure_cycle(self):
         # "One step between consecutive dots, none after the last; it, or a
         # return to a row's start, is made in the earlier dot's unit, and the
         # figure ends in its last dot's unit."
         figure = self.figure
+        if figure.place == 0:
+            # "The mask and cursor move on passed-over dots, up to 16,383
+            # steps in the unit that meets the next dot"
+            self.arc_moves(figure, figure.passed)
         if figure.kind == "character":
             bit = self.character_bit(figure)
         else:
@@ -79,14 +105,17 @@ class Figures:
             direction = line_direction(figure)
         elif figure.kind == "rectangle":
             direction = side_direction(figure)
+        elif figure.kind == "arc":
+            direction = arc_direction(figure)
         else:
             direction = figure.direction
         self.ead, self.mask = step(self.ead, self.mask, direction, self.pitch)
 
     def pattern_bit(self, figure):
-        # "In FIGD dot k uses bit k mod 16 of the pattern RA8 + 256·RA9"
+        # "In FIGD dot k uses bit k mod 16 of the pattern RA8 + 256·RA9";
+        # dots are passed over "though the pattern advances".
         pattern = self.pram[8] + 256 * self.pram[9]
-        return pattern >> (figure.place % 16) & 1
+        return pattern >> ((figure.passed + figure.place) % 16) & 1
 
     def character_bit(self, figure):
         # "Row r, dot c uses bit (c div g) mod 8 of RA(15 - (r div g) mod 8)"
@@ -120,6 +149,25 @@ def line_direction(figure):
         return axis(figure.direction)
     figure.d = (figure.d + figure.d2) % 0x4000
     return diagonal(figure.direction)
+
+
+def arc_direction(figure):
+    # "Before each i after the first, D gains D1 and D1 loses 2; if D is then
+    # negative the move is diagonal, D gains D2 and D2 loses 2; otherwise it
+    # is along the axis. Sums wrap at 14 bits; axis and diagonal are as for
+    # lines."
+    figure.d = fourteen_bits(figure.d + figure.d1)
+    figure.d1 = fourteen_bits(figure.d1 - 2)
+    if figure.d < 0x2000:
+        return axis(figure.direction)
+    figure.d = fourteen_bits(figure.d + figure.d2)
+    figure.d2 = fourteen_bits(figure.d2 - 2)
+    return diagonal(figure.direction)
+
+
+def fourteen_bits(number):
+    # "Sums wrap at 14 bits"; a pattern of 2000 or more is negative.
+    return number % 0x4000
 
 
 def axis(direction):

@@ -1,11 +1,14 @@
 """The plane: what the figures of a sheet make of the dots of a picture.
 
-A part of the SECOND PROGRAM, written from document 01's paragraph "Plane"
-and from nothing else. It knows no registers, no EAD, no directions: it paints
-dots. The bench holds it against the controller each time a sheet is drawn.
+A part of the SECOND PROGRAM, written from document 01's paragraph "Plane",
+the sentence of request M-100 about a circle's dots, and nothing else. It knows
+no registers, no EAD, no directions, no arcs: it paints dots. The bench holds
+it against the controller each time a sheet is drawn.
 """
 
-from sheet import DOT, LINE, RECTANGLE, glyph_rows
+from math import isqrt
+
+from sheet import CIRCLE, DOT, LINE, RECTANGLE, glyph_rows
 
 
 def paint(memory, picture, glyphs, figures):
@@ -42,6 +45,8 @@ def dots(figure, glyphs):
         return line_dots(figure)
     if figure.kind == RECTANGLE:
         return border_dots(figure)
+    if figure.kind == CIRCLE:
+        return circle_dots(figure)
     return glyph_dots(figure, glyph_rows(glyphs, figure.number))
 
 
@@ -90,3 +95,28 @@ def glyph_dots(figure, rows):
         for right in range(8 * g):
             bit = rows[down // g] >> (right // g) & 1
             yield figure.x + right, figure.y + down, bit
+
+
+def circle_dots(figure):
+    # "In each octant, for every i with 2i² at most r², its dot lies y out".
+    # "Each dot of the circle is changed once, also where octants meet": a set.
+    r = figure.radius
+    found = set()
+    i = 0
+    while 2 * i * i <= r * r:
+        y = how_far_out(r, i)
+        for right in (1, -1):
+            for down in (1, -1):
+                found.add((figure.x + right * i, figure.y + down * y))
+                found.add((figure.x + right * y, figure.y + down * i))
+        i += 1
+    return [(x, y, 1) for x, y in found]
+
+
+def how_far_out(r, i):
+    # "its dot lies y out, where y(y - 1) + i² < r² and r² is at most y(y + 1)
+    # + i²": the root of r² - i², rounded down or up.
+    root = isqrt(r * r - i * i)
+    for y in (root, root + 1):
+        if y * (y - 1) + i * i < r * r <= y * (y + 1) + i * i:
+            return y

@@ -1,17 +1,17 @@
-"""The self check: worked cases, written out by hand from document 01.
+"""The self check: worked cases, written out by hand from document 01 and 02.
 
 A part of the SECOND PROGRAM. `python3 selfcheck.py` prints how many checks
 were made and how many came out wrong; the exit status is 1 if any did. The
-expected values below are copied from 01's bench sheet or worked out from its
-sentences with pencil and paper, not taken from any program.
+expected values below are copied from 01's bench sheet or worked out from the
+papers' sentences with pencil and paper, not taken from any program.
 """
 
 import sys
 
 from bench import Bench, digest
 from commands import NAMES
-from plane import border_dots, dots, glyph_dots, line_dots
-from sheet import DOT, GLYPH, LINE, RECTANGLE, Figure, Picture, block_sum, translate
+from plane import border_dots, circle_dots, dots, glyph_dots, line_dots
+from sheet import CIRCLE, DOT, GLYPH, LINE, RECTANGLE, Figure, Picture, block_sum, translate
 from steps import logic_unit, step, whole_word_move
 
 ACCEPTANCES = ("M 0", "W 0", "C 0", "P 0", "L 0")
@@ -133,6 +133,62 @@ def check_rectangles_and_glyphs():
     check("one dot is a line", entries[11:20], [0x08, 0, 0, 0, 0, 0, 0, 0, 0])
 
 
+def about(x, y, outs):
+    # The dots of a circle whose dot i lies outs[i] out, each once.
+    return {(x + right * across, y + down * below) for i, out in enumerate(outs)
+            for across, below in ((i, out), (out, i)) for right in (1, -1) for down in (1, -1)}
+
+
+def check_circles():
+    # How far out the dots for i = 0, 1, .. lie. Radius 3: 2 * 2² = 8 is at
+    # most 9; for i = 2, 2 * 1 + 4 < 9 and 9 is at most 2 * 3 + 4: 2 out, on
+    # the diagonal. Radius 7: 2 * 4² = 32 is at most 49, 2 * 5² is not; for
+    # i = 4, 6 * 5 + 16 < 49 and 49 is at most 6 * 7 + 16: 6 out. Radius 4,
+    # i = 2: 3 * 4 + 4 = 16 is at most, 4 * 3 + 4 = 16 is not less: 3 out.
+    outs = {1: [1], 2: [2, 2], 3: [3, 3, 2], 4: [4, 4, 3], 7: [7, 7, 7, 6, 6], 10: [10, 10, 10, 10, 9, 9, 8, 7]}
+    sizes = {1: 4, 2: 12, 3: 16, 4: 20, 7: 36, 10: 56}
+    for r in outs:
+        found = sorted((x, y) for x, y, bit in circle_dots(Figure(CIRCLE, 3, 30, 20, 0, 0, 0, 0, r)) if bit == 1)
+        check("circle of radius %d" % r, found, sorted(about(30, 20, outs[r])))
+        check("dots of radius %d" % r, len(found), sizes[r])
+    # Radius 7 is open at four places: (4, 6) and (6, 4) are dots, (5, 5) is not.
+    ends = {(x, y) for x, y, _ in circle_dots(Figure(CIRCLE, 3, 0, 0, 0, 0, 0, 0, 7))}
+    for right, down in ((1, 1), (1, -1), (-1, 1), (-1, -1)):
+        check("gap", [(right * x, down * y) in ends for x, y in ((4, 6), (5, 5), (6, 4))], [True, False, True])
+
+
+def arc_entries(ead_low, ead_high, top, first_byte, dc, d, d2, dm):
+    # CURS, PRAM 8 with FF FF, FIGS with D1 = -1, FIGD; each number below 256.
+    return [0x149, ead_low, ead_high, top, 0x178, 0xFF, 0xFF, 0x14C, first_byte,
+            dc, 0, d, 0, d2, 0, 0xFF, 0x3F, dm, 0, 0x16C]
+
+
+def check_circle_entries():
+    # Radius 3 about (5, 4): left end (2, 4), right (8, 4), both in word A0;
+    # top (5, 1), word 28; bottom (5, 7), word 118. DC 2, for odd DIR 1.
+    left, right, top, bottom = (0xA0, 0, 0x20), (0xA0, 0, 0x80), (0x28, 0, 0x50), (0x18, 1, 0x50)
+    starts = [left, top, bottom, left, right, bottom, top, right]
+    wanted = [0x123]
+    for direction in range(8):
+        odd = direction % 2
+        wanted += arc_entries(*starts[direction], 0x20 + direction, 2 - odd, 2, 4, odd)
+    check("circle entries", translate(Picture(40, 400), b"", [Figure(CIRCLE, 3, 5, 4, 0, 0, 0, 0, 3)])[2:], wanted)
+    # Radius 7: the last dots do not coincide, DC is 4 for all. Radius 1: DC 0.
+    for r, dc in ((7, 4), (1, 0)):
+        entries = translate(Picture(40, 400), b"", [Figure(CIRCLE, 0, 50, 40, 0, 0, 0, 0, r)])[3:]
+        check("entries of radius %d" % r, len(entries), 160)
+        for direction in range(8):
+            check("numbers of radius %d, DIR %d" % (r, direction), entries[20 * direction + 7:20 * direction + 20],
+                  arc_entries(0, 0, 0, 0x20 + direction, dc, r - 1, 2 * r - 2, direction % 2)[7:])
+    # Radius 400: 2 * 282² = 159,048 is at most 160,000, 2 * 283² is not; for
+    # i = 282, 284 * 283 + 282² < 160,000, so it lies further out than i: DC
+    # 282 = 011A for all, D 399 = 018F, D2 798 = 031E.
+    entries = translate(Picture(255, 900), b"", [Figure(CIRCLE, 0, 500, 450, 0, 0, 0, 0, 400)])[3:]
+    for direction in range(8):
+        check("numbers of radius 400", entries[20 * direction + 9:20 * direction + 19],
+              [0x1A, 1, 0x8F, 1, 0x1E, 3, 0xFF, 0x3F, direction % 2, 0])
+
+
 def check_the_listing():
     sheet = block(0, 1, 1, ["01031100020000000000"])
     check("the check of the worked sheet", sheet[510:], bytes([0x49, 0x20]))
@@ -211,7 +267,7 @@ def drawn_dots(figs, numbers, start):
     bench = Bench()
     script = ["M 400", "C 23", "C 46", "P 1", "C 47", "P 6", "C 78", "P FF", "P FF", "U 20",
               "C 7E", "P 6", "P 5", "C 49", "P F2", "P 0", "P 80", "U 20", "C 4C", "P %X" % figs]
-    script += ["P %X" % byte for number in numbers for byte in (number, 0)]
+    script += ["P %X" % byte for number in numbers for byte in (number % 256, number % 0x4000 // 256)]
     for line in script + ["U 20", "C %X" % start, "U FFFF"]:
         bench.answer(line)
     return {(16 * (place % 6) + bit, place // 6) for place, word in enumerate(bench.chip.memory)
@@ -235,6 +291,79 @@ def check_figures_in_the_plane():
                      40 + (2 * c + i) * down + (2 * r + j) * below)
                     for r, c in ones for i in (0, 1) for j in (0, 1)}
         check("character along %d" % direction, drawn_dots(0x10 + direction, [1, 3], 0x68), dots_set)
+
+
+def arc_path(direction, axes, diagonals):
+    # The dot after so many axis and diagonal moves from (40, 40).
+    axis, diagonal = VECTORS[direction], VECTORS[(direction + 1) % 8]
+    if direction % 2 == 1:
+        axis, diagonal = diagonal, axis
+    return 40 + axes * axis[0] + diagonals * diagonal[0], 40 + axes * axis[1] + diagonals * diagonal[1]
+
+
+def check_arcs_in_the_plane():
+    for direction in range(8):
+        # Radius 7, D 6, D2 12, D1 -1. i = 1: D 5, axis; i = 2: D 2, axis;
+        # i = 3: D -3, diagonal, D 9, D2 10; i = 4: D 2, axis.
+        path = [arc_path(direction, a, d) for a, d in ((0, 0), (1, 0), (2, 0), (2, 1), (3, 1))]
+        for dm in range(6):
+            check("arc along %d, DM %d" % (direction, dm), drawn_dots(0x20 + direction, [4, 6, 12, -1, dm], 0x6C),
+                  set(path[dm:]))
+        # 0 is not negative. D 1, D2 4, D1 -1. i = 1: D 0, axis; i = 2: D -3,
+        # diagonal, D 1, D2 2; i = 3: D -4, diagonal, D -2, D2 0; i = 4: D1 is
+        # -7, D -9, diagonal.
+        path = [arc_path(direction, a, d) for a, d in ((0, 0), (1, 0), (1, 1), (1, 2), (1, 3))]
+        check("D 0 along %d" % direction, drawn_dots(0x20 + direction, [4, 1, 4, -1, 0], 0x6C), set(path))
+        # All wrap. D 0, D2 2000, D1 2000. i = 1: D 2000, -8192, diagonal, D 0,
+        # D1 and D2 1FFE; i = 2: D 1FFE, axis, D1 1FFC; i = 3: D 3FFA, -6,
+        # diagonal, D 1FF8, D1 1FFA, D2 1FFC; i = 4: D 3FF2, diagonal, D 1FEE,
+        # D1 1FF8; i = 5: D 3FE6, diagonal.
+        path = [arc_path(direction, a, d) for a, d in ((0, 0), (0, 1), (1, 1), (1, 2), (1, 3), (1, 4))]
+        check("wraps along %d" % direction, drawn_dots(0x20 + direction, [5, 0, 0x2000, 0x2000, 0], 0x6C), set(path))
+        # D 1FFF, D2 1, D1 3. i = 1: D 2002, diagonal, D 2003, D1 1, D2 -1;
+        # i = 2: D 2004, diagonal, D 2003, D1 -1, D2 -3; i = 3: D 2002,
+        # diagonal, D 1FFF, D1 -3; i = 4: D 1FFC, axis.
+        path = [arc_path(direction, a, d) for a, d in ((0, 0), (0, 1), (0, 2), (0, 3), (1, 3))]
+        check("D wraps along %d" % direction, drawn_dots(0x20 + direction, [4, 0x1FFF, 1, 3, 0], 0x6C), set(path))
+    # A with another bit, and A under GCHRD.
+    for first_byte, start in ((0x28, 0x6C), (0x30, 0x6C), (0x60, 0x6C), (0xA0, 0x6C), (0x20, 0x68)):
+        check("no arc by %02X" % first_byte, drawn_dots(first_byte, [4, 6, 12, -1, 0], start), set())
+
+
+# An arc of D 1, D2 4, D1 -1 along right from word 5, dot 14, pitch 1. Moves:
+# right; up-right, up-right (see above): after three of them word 4, dot 1.
+ARC_START = "C 47; P 1; C 78; P 8; P 0; C 49; P 5; P 0; P E0; C 23; U 20; C 4C; P 22; P 3; P 0; P 1; P 0; P 4; P 0; P FF; P 3F"
+ARC_REST = "1 3 1 4 3FFF %X 22 0 3 0 00000000000000000800000000000000 0000000000000000 000000 0 0 0 0 0 0"
+
+
+def check_arcs():
+    # DM 3 = DC: after FIGD's unit bit 3 is set and EAD stands at the start;
+    # the next unit makes the three moves and sets the last dot, by the
+    # pattern's bit 3.
+    talk("DM = DC", ARC_START + "; P 3; P 0; C 6C; U D; S; D; V 0 8; U 1; S; D; V 0 8; U 1",
+         "U 0 A 2; U 0 D 1; S C; D 5 4000 " + ARC_REST % 3 + "; V 0 0 0 0 0 0 0 0; "
+         "U 0 1 1; S 4; D 4 2 " + ARC_REST % 3 + "; V 0 0 0 0 2 0 0 0; U 0 0 2")
+    # RESET between the two leaves EAD and mask at the start.
+    talk("RESET before the first dot", ARC_START + "; P 3; P 0; C 6C; U D; C 0; S; U 5; D; V 0 8",
+         "U 0 A 2; U 0 D 1; S 4; U 0 0 2; D 5 4000 " + ARC_REST % 3 + "; V 0 0 0 0 0 0 0 0")
+    # DM 4 > DC: FIGD's unit makes the three moves; no figure is in progress.
+    talk("DM > DC", ARC_START + "; P 4; P 0; C 6C; U C; S; U 1; S; D; U 1; V 0 8",
+         "U 0 A 2; U 0 C 1; S 0; U 0 1 1; S 4; D 4 2 " + ARC_REST % 4 + "; U 0 0 2; V 0 0 0 0 0 0 0 0")
+    # DM never sent is 16,383, and not -1.
+    talk("DM never sent", ARC_START + "; C 6C; U B; S; D; V 0 8",
+         "U 0 A 2; U 0 B 1; S 4; D 4 2 " + ARC_REST % 0x3FFF + "; V 0 0 0 0 0 0 0 0")
+    # DC 16,383 and DM never sent: one dot is left. Pitch 0, so each of the
+    # 16,383 moves goes right by one dot: from word 0, dot 0 to 3FF, dot 15.
+    talk("16,383 moves", "M 400; C 78; P 0; P 80; C 49; P 0; P 0; P 0; C 23; U 20; C 4C; P 22; P FF; P 3F; C 6C; U 5; S; "
+         "V 3FF 1; U 1; S; V 3FF 1; D",
+         "U 0 8 2; U 0 5 1; S C; V 0; U 0 1 1; S 4; V 8000; D 3FF 8000 0 3FFF 8 8 3FFF 3FFF 22 0 3 0 "
+         "00000000000000000080000000000000 0000000000000000 000000 0 0 0 0 0 0")
+    # The pattern counts the dots passed over. D 1000 stays positive: 17 moves
+    # right. Pattern 0003, DM 2: of the dots 2 to 17 those with the numbers 16
+    # and 17 are set. Sixteen units after FIGD's.
+    talk("the pattern advances", "C 78; P 3; P 0; C 49; P 0; P 0; P 0; C 23; U 20; C 4C; P 22; P 11; P 0; P 0; P 10; "
+         "P 0; P 0; P FF; P 3F; P 2; P 0; C 6C; U D; U 10; V 0 3; S; U 1",
+         "U 0 8 2; U 0 D 1; U 0 10 1; V 0 3 0; S 4; U 0 0 2")
 
 
 def check_reads():
@@ -269,6 +398,19 @@ def check_refusals():
         ("18", (1, 8), bytes(8), block(0, 1, 1, ["04000000000000110000"]), "T 12 0 0"),
         ("19", (1, 8), bytes(8), block(0, 1, 1, ["04000900000000010000"]), "T 13 0 0"),
         ("19", (1, 1), b"", block(0, 1, 1, ["01001000000000000000"]), "T 13 0 0"),
+        ("16: spare bytes", (1, 9), b"", block(0, 1, 1, ["05000300030003000100"]), "T 10 0 0"),
+        ("16: spare bytes", (1, 9), b"", block(0, 1, 1, ["05000300030003000001"]), "T 10 0 0"),
+        ("16: operation 4", (1, 9), b"", block(0, 1, 1, ["05040300030003000000"]), "T 10 0 0"),
+        ("16: kind 6", (1, 9), b"", block(0, 1, 1, ["06000300030003000000"]), "T 10 0 0"),
+        ("18: radius 0", (1, 9), b"", block(0, 1, 1, ["05000300030000000000"]), "T 12 0 0"),
+        ("18: radius 2,001", (1, 9), b"", block(0, 1, 1, ["050003000300D1070000"]), "T 12 0 0"),
+        ("19: radius 2,000", (1, 9), b"", block(0, 1, 1, ["050003000300D0070000"]), "T 13 0 0"),
+        ("19: left", (1, 9), b"", block(0, 1, 1, ["05000300040004000000"]), "T 13 0 0"),
+        ("19: right", (1, 9), b"", block(0, 1, 1, ["05000C00040004000000"]), "T 13 0 0"),
+        ("19: above", (1, 9), b"", block(0, 1, 1, ["05000400030004000000"]), "T 13 0 0"),
+        ("19: below", (1, 9), b"", block(0, 1, 1, ["05000400050004000000"]), "T 13 0 0"),
+        ("20", (1, 9), b"", block(0, 1, 1, ["05000400040004000000"]), "T 14 A3 0"),
+        ("20", (1, 9), b"", block(0, 1, 1, ["05000B00040004000000"]), "T 14 A3 0"),
         ("20", (1, 1), b"", block(0, 1, 1, good), "T 14 D 0"),
         ("none", (1, 8), bytes(8), block(0, 0, 1, []), "T 0 2 0 0147 0001"),
     ]
@@ -300,6 +442,14 @@ def check_demand_3_by_hand():
     bench.answer("B " + block(0, 1, 1, ["01031100020000000000"]).hex().upper())
     check("drawn", bench.answer("X"), "X 0 D 0 E")
     check("the dot", bench.answer("V 50 3"), "V 0 2 0")
+    # Radius 7 about (7, 7), COMPLEMENT, one word by fifteen lines: 163 entries
+    # and 36 dots. Lines 2 and 12 are empty: the gaps.
+    bench = Bench()
+    bench.picture = Picture(1, 15)
+    bench.answer("B " + block(0, 1, 1, ["05010700070007000000"]).hex().upper())
+    check("circle drawn", bench.answer("X"), "X 0 A3 0 C7")
+    check("circle", bench.answer("V 0 10"),
+          "V 3E0 C18 0 2002 2002 4001 4001 4001 4001 4001 2002 2002 0 C18 3E0 0")
 
 
 def main():
@@ -309,11 +459,15 @@ def main():
     check_lines()
     check_smallest_directions()
     check_rectangles_and_glyphs()
+    check_circles()
+    check_circle_entries()
     check_the_listing()
     check_ports()
     check_figures()
     check_characters()
     check_figures_in_the_plane()
+    check_arcs_in_the_plane()
+    check_arcs()
     check_reads()
     check_refusals()
     check_language()

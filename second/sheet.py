@@ -1,22 +1,24 @@
 """Drawing sheets: the checks in document 01's order, decoding, translation.
 
-A part of the SECOND PROGRAM, written from the paper alone. A sheet is a
-`bytes` value; its figures come out as `Figure` values; its translation is a
-list of 16-bit entries. A refusal is a `Refused` value with 01's three
-numbers.
+A part of the SECOND PROGRAM, written from the paper alone; the sentences
+about circles are those of request M-100. A sheet is a `bytes` value; its
+figures come out as `Figure` values; its translation is a list of 16-bit
+entries. A refusal is a `Refused` value with 01's three numbers.
 """
 
 from collections import namedtuple
+from math import isqrt
 
 BLOCK_SIZE = 512
 RECORD_SIZE = 10
 
-# The kinds of record: "Kinds: 1 dot ...; 2 line ...; 3 rectangle ...; 4 glyph"
-DOT, LINE, RECTANGLE, GLYPH = 1, 2, 3, 4
+# The kinds of record: "Kinds: 1 dot ...; 2 line ...; 3 rectangle ...; 4 glyph",
+# "Sheet record kind 5 is a circle"
+DOT, LINE, RECTANGLE, GLYPH, CIRCLE = 1, 2, 3, 4, 5
 
 # A figure of the sheet. A line and a rectangle use x1, y1; a glyph uses
-# number, factor; what a kind does not use is 0.
-Figure = namedtuple("Figure", "kind operation x y x1 y1 number factor")
+# number, factor; a circle uses radius; what a kind does not use is 0.
+Figure = namedtuple("Figure", "kind operation x y x1 y1 number factor radius", defaults=[0])
 
 Picture = namedtuple("Picture", "words lines")      # P and H
 
@@ -113,7 +115,8 @@ def check_block_form(number, block, blocks):
 
 
 def read_record(picture, glyphs, block, block_number, index):
-    # "16, 17, 18, 19 | record's form; glyph number; factor; a dot outside"
+    # "16, 17, 18, 19 | record's form; glyph number; factor; a dot outside";
+    # "18 also for a radius out of range."
     record = record_of(block, index)
     figure = decode(record)
     where = (block_number, index)
@@ -123,6 +126,9 @@ def read_record(picture, glyphs, block, block_number, index):
         if 8 * figure.number + 8 > len(glyphs):  # "eight per glyph"
             raise Refused(17, *where)
         if not 1 <= figure.factor <= 16:         # "factor 1 to 16"
+            raise Refused(18, *where)
+    if figure.kind == CIRCLE:
+        if not 1 <= figure.radius <= 2000:       # "radius 1 to 2,000"
             raise Refused(18, *where)
     if has_a_dot_outside(figure, picture):
         raise Refused(19, *where)
@@ -138,13 +144,16 @@ def record_of(block, index):
 def form_is_right(record):
     # "A record: kind, operation 0 to 3, x, y, four bytes. Kinds: 1 dot (four
     # zeros); 2 line to x1, y1; 3 rectangle to any opposite corner x1, y1;
-    # 4 glyph (number, factor 1 to 16, two zeros)."
+    # 4 glyph (number, factor 1 to 16, two zeros)." "kind 5 is a circle about
+    # x, y, radius 1 to 2,000, two zero bytes."
     kind, operation, rest = record[0], record[1], record[6:10]
-    if not 1 <= kind <= 4 or operation > 3:
+    if not 1 <= kind <= 5 or operation > 3:
         return False
     if kind == DOT and any(rest):
         return False
     if kind == GLYPH and any(rest[2:4]):
+        return False
+    if kind == CIRCLE and any(rest[2:]):
         return False
     return True
 
@@ -156,13 +165,15 @@ def decode(record):
         return Figure(kind, operation, x, y, word_at(record, 6), word_at(record, 8), 0, 0)
     if kind == GLYPH:
         return Figure(kind, operation, x, y, 0, 0, record[6], record[7])
+    if kind == CIRCLE:
+        return Figure(kind, operation, x, y, 0, 0, 0, 0, word_at(record, 6))
     return Figure(kind, operation, x, y, 0, 0, 0, 0)
 
 
 def has_a_dot_outside(figure, picture):
     # 19: "a dot outside". It is enough to look at the corners of the box
-    # that the figure fills.
-    return any(x >= 16 * picture.words or y >= picture.lines
+    # that the figure fills, or at the four ends of a circle.
+    return any(x < 0 or y < 0 or x >= 16 * picture.words or y >= picture.lines
                for x, y in corners(figure))
 
 
@@ -173,6 +184,10 @@ def corners(figure):
         # "Glyph at top left: 8g by 8g dots"
         side = 8 * figure.factor
         return [(figure.x + side - 1, figure.y + side - 1)]
+    if figure.kind == CIRCLE:
+        # Its dots for i = 0; no dot lies further out.
+        x, y, r = figure.x, figure.y, figure.radius
+        return [(x - r, y), (x + r, y), (x, y - r), (x, y + r)]
     return [(figure.x, figure.y), (figure.x1, figure.y1)]
 
 
@@ -206,6 +221,8 @@ def translate_figure(picture, glyphs, figure):
         return entries + translate_line(picture, figure.x, figure.y, figure.x1, figure.y1)
     if figure.kind == RECTANGLE:
         return entries + translate_rectangle(picture, figure)
+    if figure.kind == CIRCLE:
+        return entries + translate_circle(picture, figure)
     return entries + translate_glyph(picture, glyphs, figure)
 
 
@@ -243,8 +260,8 @@ def translate_line(picture, x, y, x1, y1):
     return curs(picture, x, y) + pattern_of_ones() + figs(first_byte, numbers) + [command(0x6C)]
 
 
-# The moves (right, down) that a line along DIR makes: its axis move and its
-# diagonal move. "For even DIR the axis is DIR and the diagonal DIR + 1; for
+# The moves (right, down) that a line or an arc along DIR makes: its axis move
+# and its diagonal move. "For even DIR the axis is DIR and the diagonal DIR + 1; for
 # odd, the axis is DIR + 1 mod 8 and the diagonal DIR."
 LINE_MOVES = [
     ((0, 1), (1, 1)),       # DIR 0: down, down-right
@@ -292,6 +309,49 @@ def translate_glyph(picture, glyphs, figure):
     entries += curs(picture, figure.x, bottom)
     entries += [command(0x78)] + list(glyph_rows(glyphs, figure.number))
     return entries + figs(0x12, [7]) + [command(0x68)]
+
+
+def translate_circle(picture, figure):
+    # "after one WDAT its eight arcs go in order of DIR, each sent as a line
+    # is"
+    entries = []
+    for direction in range(8):
+        x, y = start_of_arc(figure, direction)
+        numbers = numbers_of_arc(figure.radius, direction)
+        entries += curs(picture, x, y) + pattern_of_ones() + figs(0x20 + direction, numbers) + [command(0x6C)]
+    return entries
+
+
+def start_of_arc(figure, direction):
+    # The end of the circle from which the axis move goes along the circle
+    # and the diagonal move inward as well: the centre is one radius inward.
+    axis, diagonal = LINE_MOVES[direction]
+    inward = diagonal[0] - axis[0], diagonal[1] - axis[1]
+    return figure.x - figure.radius * inward[0], figure.y - figure.radius * inward[1]
+
+
+def numbers_of_arc(r, direction):
+    # "With D = r - 1, D2 = 2(r - 1), D1 = -1"; "with DC the largest i, and DM
+    # too: even ones have DM 0, odd ones DM 1 and a DC one less where the
+    # octants' last dots coincide on the diagonal"
+    dc, dm = largest_i(r), 0
+    if direction % 2 == 1:
+        dm = 1
+        if last_dots_coincide(r):
+            dc = dc - 1
+    return [dc, r - 1, 2 * (r - 1), -1, dm]
+
+
+def largest_i(r):
+    # "every i with 2i² at most r²"
+    return isqrt(r * r // 2)
+
+
+def last_dots_coincide(r):
+    # "that is where the largest i's dot lies i out": y is i in "y(y - 1) + i²
+    # < r² and r² is at most y(y + 1) + i²".
+    i = largest_i(r)
+    return i * (i - 1) + i * i < r * r <= i * (i + 1) + i * i
 
 
 def glyph_rows(glyphs, number):

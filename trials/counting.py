@@ -170,7 +170,7 @@ class CountingChip(Chip):
             many[count_dot, place, DOTS[self.mask]] += 1
         Chip.memory_cycle(self, pattern)
 
-    def start_figure(self, kind, dots):
+    def start_figure(self, kind, dots, passed=0):
         if dots == 0:
             reached("figure of no dots: " + kind)
         elif kind == "rectangle":
@@ -183,7 +183,7 @@ class CountingChip(Chip):
                 reached("character: more than 8 dots")
             if dots > 2 ** 32:
                 reached("character: more than 2^32 units")
-        Chip.start_figure(self, kind, dots)
+        Chip.start_figure(self, kind, dots, passed)
         if self.figure is not None:
             factor = self.figure.factor
             self.figure.marks = wide_marks((self.dc + 1) * factor, self.d * factor) if kind == "character" else {}
