@@ -14,8 +14,7 @@ use Rattle.geometry.proofs.CycleLaws.{eitherOn}
 use Rattle.records.specs.declared.Point.{Point}
 use Rattle.circles.specs.Circle.{largest, coincide, arcDm, arcDc, endX, endY, arcOn}
 use Rattle.circles.proofs.CircleLaws.{at-most, arcs-disjoint, circle-is}
-use Rattle.circles.proofs.SizeLaws as sizes
-use Rattle.circles.proofs.SizeLaws.{largest-le, circle-plane, circle-end, circle-dots}
+use Rattle.circles.proofs.SizeLaws.{largest-le, circle-plane, circle-end, arcDots, circle-dots}
 use Rattle.entries.specs.Entries.{arcStart, arcFigs, arcEntries, arcsFrom, circleEntries}
 use Rattle.registers.specs.declared.Drawing.{Drawing}
 use Rattle.registers.specs.Size.{arcCyclesOf}
@@ -65,7 +64,7 @@ module _ (p h : ℕ) (sized : Sized p h) (op : Operation) (c : Point) (r : ℕ) 
     unfolding arcCyclesOf
     cycles-are = omega arith
 
-    one-arc : Draws p h op (arcOn (c .x) (c .y) r dir) solid s (arcEntries p c r dir) (sizes.dotsOf r dir)
+    one-arc : Draws p h op (arcOn (c .x) (c .y) r dir) solid s (arcEntries p c r dir) (arcDots r dir)
     unfolding arcEntries
     one-arc =
         draws-as (λ x y. refl) (sym cycles-are)
@@ -81,7 +80,7 @@ module _ (p h : ℕ) (sized : Sized p h) (op : Operation) (c : Point) (r : ℕ) 
 
   abbrev dotsFrom : ℕ → ℕ → ℕ
   dotsFrom zero dir = 0
-  dotsFrom (suc n) dir = sizes.dotsOf r dir + dotsFrom n (suc dir)
+  dotsFrom (suc n) dir = arcDots r dir + dotsFrom n (suc dir)
 
   from-found : (n dir x y : ℕ) → fromOn n dir x y ≡ true → (k : ℕ) × (dir ≤ k) × (k < dir + n) × (arcOn (c .x) (c .y) r k x y ≡ true)
   from-found zero dir x y e = absurd (true≢false (sym e))
