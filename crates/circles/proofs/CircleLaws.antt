@@ -12,7 +12,8 @@ use Rattle.geometry.specs.Plane.{distance, someTo, liesOut, circleOn}
 use Rattle.geometry.proofs.TestLaws.{and-both, or-right, or-cases, cases, same-test, some-found, some-at, pair-same, same-pair}
 use Rattle.geometry.proofs.OctantLaws.{dirOf}
 use Rattle.circles.specs.Circle.{circleOut, largest, coincide, arcDm, arcDc, wayOf, offset, arcX, arcY, endX, endY, arcOn}
-use Rattle.circles.proofs.OutLaws.{lies-out, out-lies, out-is, within, to-largest, out-start, out-of, out-bound, out-positive, beside, diagonal-last, diagonal-coincide}
+use Rattle.circles.proofs.OutLaws.{lies-out, out-lies, out-is, within, to-largest, out-start, out-of, out-bound, out-positive}
+use Rattle.circles.proofs.OutLaws.{beside, diagonal-last, diagonal-coincide}
 use Rattle.circles.proofs.WayLaws.{wayX, wayY, Beside, odd-is, one-not, apart}
 
 -- ---- the dots that an arc draws
@@ -153,8 +154,12 @@ module _ (cx cy r : ℕ) (pos : 0 < r) (i : ℕ) (h : i ≤ largest r) where
       nearer = beside r pos i h
 
       go : (a s t : Bool) → circleOn cx cy r (wayX a s cx i (circleOut r i)) (wayY a t cy i (circleOut r i)) ≡ true
-      go true s t = circle-across _ _ (offset-distance s cx i (omega (arith, near, nearer))) (offset-distance (not t) cy (circleOut r i) (omega (arith, near)))
-      go false s t = circle-along _ _ (offset-distance (not s) cx (circleOut r i) (omega (arith, near))) (offset-distance t cy i (omega (arith, near, nearer)))
+      go true s t =
+          circle-across _ _ (offset-distance s cx i (omega (arith, near, nearer)))
+          (offset-distance (not t) cy (circleOut r i) (omega (arith, near)))
+      go false s t =
+          circle-along _ _ (offset-distance (not s) cx (circleOut r i) (omega (arith, near)))
+          (offset-distance t cy i (omega (arith, near, nearer)))
 
 -- ---- each dot of the circle is drawn by an arc
 not-not : (s : Bool) → not (not s) ≡ s
@@ -195,10 +200,12 @@ module _ (cx cy r : ℕ) (pos : 0 < r) where
         at : Dec (dirOf true s (not t) % 2 ≡ 0) → Dec (i ≡ 0) → Dec (i ≡ circleOut r i) → Met (offset s cx i) (offset t cy (circleOut r i))
         at (yes e) p q = by true s (not t) i _ _ (even-within r _ i e h) refl (rw (not-not t))
         at (no e) (yes p) q =
-            by true (not s) (not t) i _ _ (even-within r _ i (omega (arith, odd-is true s (not t), odd-is true (not s) (not t), one-not s)) h)
+            by true (not s) (not t) i _ _ (even-within r _ i
+            (omega (arith, odd-is true s (not t), odd-is true (not s) (not t), one-not s)) h)
             (offset-none s (not s) cx i p) (rw (not-not t))
         at (no e) (no p) (yes q) =
-            by false (not s) t i _ _ (even-within r _ i (omega (arith, odd-is true s (not t), odd-is false (not s) t, one-not s, one-not t)) h)
+            by false (not s) t i _ _ (even-within r _ i
+            (omega (arith, odd-is true s (not t), odd-is false (not s) t, one-not s, one-not t)) h)
             (rw (not-not s) (ap (offset s cx) q)) (ap (offset t cy) (sym q))
         at (no e) (no p) (no q) =
             by true s (not t) i _ _ (odd-within r _ i (omega arith) (omega (arith, beside r pos i h)) h) refl (rw (not-not t))
@@ -209,10 +216,12 @@ module _ (cx cy r : ℕ) (pos : 0 < r) where
         at : Dec (dirOf false (not s) t % 2 ≡ 0) → Dec (i ≡ 0) → Dec (i ≡ circleOut r i) → Met (offset s cx (circleOut r i)) (offset t cy i)
         at (yes e) p q = by false (not s) t i _ _ (even-within r _ i e h) (rw (not-not s)) refl
         at (no e) (yes p) q =
-            by false (not s) (not t) i _ _ (even-within r _ i (omega (arith, odd-is false (not s) t, odd-is false (not s) (not t), one-not t)) h)
+            by false (not s) (not t) i _ _ (even-within r _ i
+            (omega (arith, odd-is false (not s) t, odd-is false (not s) (not t), one-not t)) h)
             (rw (not-not s)) (offset-none t (not t) cy i p)
         at (no e) (no p) (yes q) =
-            by true s (not t) i _ _ (even-within r _ i (omega (arith, odd-is false (not s) t, odd-is true s (not t), one-not s, one-not t)) h)
+            by true s (not t) i _ _ (even-within r _ i
+            (omega (arith, odd-is false (not s) t, odd-is true s (not t), one-not s, one-not t)) h)
             (ap (offset s cx) (sym q)) (rw (not-not t) (ap (offset t cy) q))
         at (no e) (no p) (no q) =
             by false (not s) t i _ _ (odd-within r _ i (omega arith) (omega (arith, beside r pos i h)) h) (rw (not-not s)) refl
@@ -226,7 +235,8 @@ module _ (cx cy r : ℕ) (pos : 0 < r) where
     where
       across : distance x cx ≤ largest r → circleOut r (distance x cx) ≡ distance y cy → Met x y
       across h o =
-          subst₂ Met (sym (away cx x)) (ap (offset (leb cy y) cy) o ∙ sym (away cy y)) (drawn-across (leb cx x) (leb cy y) (distance x cx) h)
+          subst₂ Met (sym (away cx x)) (ap (offset (leb cy y) cy) o ∙ sym (away cy y))
+          (drawn-across (leb cx x) (leb cy y) (distance x cx) h)
 
       along : distance y cy ≤ largest r → circleOut r (distance y cy) ≡ distance x cx → Met x y
       along h o =
@@ -289,7 +299,8 @@ module _ (cx cy r : ℕ) (pos : 0 < r) (left : r ≤ cx) (top : r ≤ cy) where
   arcs-disjoint dir dir′ l h x y e f =
       let a = arc-found cx cy r dir x y e in
       let b = arc-found cx cy r dir′ x y f in
-      let s = arcs-apart cx cy r pos left top dir dir′ (a .0) (b .0) (omega arith) h (a .1) (b .1) (sym (a .2) ∙ b .2) (sym (a .3) ∙ b .3) in
+      let s = arcs-apart cx cy r pos left top dir dir′ (a .0) (b .0) (omega arith) h (a .1) (b .1) (sym (a .2) ∙ b .2)
+      (sym (a .3) ∙ b .3) in
       omega (arith, s .0)
 
   -- the circle is its eight arcs

@@ -122,7 +122,8 @@ out-start r pos = out-is (record { inner = omega arith; outer = omega arith })
 last-small : (r i : ℕ) → 2 * (lastBelow r i * lastBelow r i) ≤ r * r
 unfolding lastBelow
 last-small r zero = omega arith
-last-small r (suc i) = cases (λ (j : ℕ). 2 * (j * j) ≤ r * r) (leb (2 * (suc i * suc i)) (r * r)) (λ e. leb-true _ _ e) (λ e. last-small r i)
+last-small r (suc i) =
+    cases (λ (j : ℕ). 2 * (j * j) ≤ r * r) (leb (2 * (suc i * suc i)) (r * r)) (λ e. leb-true _ _ e) (λ e. last-small r i)
 
 last-most : (r j i : ℕ) → j ≤ i → 2 * (j * j) ≤ r * r → j ≤ lastBelow r i
 unfolding lastBelow

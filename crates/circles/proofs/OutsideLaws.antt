@@ -2,7 +2,7 @@
 -- dots of it. Moved right and down by its radius, the circle has a number for each of its dots, those left of 0 and above 0 too.
 use mathlib.Core.Path.{_≡_, refl}
 use mathlib.Core.Bool.{Bool, true, false, _&&_, true≢false}
-use Prim.Native.Nat.{ℕ, _+_, _-_, _*_, _≤_, _<_}
+use Prim.Native.Nat.{ℕ, _+_, _*_, _≤_, _<_}
 use native.Mathlib.Omega.{arith}
 use lib.Dec.{ltb, leb}
 use borrow.Author.Tests.{leb-true, leb-false, ltb-true, ltb-false}
@@ -23,7 +23,8 @@ module _ (cx cy r : ℕ) (pos : 0 < r) (p h : ℕ) where
       }
 
   -- the end of a DIR lies outside
-  past : (dir : ℕ) → dir < 8 → (InMoved r p h (endX (cx + r) r dir) (endY (cy + r) r dir) → ⊥) → Outside p h (λ k. circleOn (cx + k) (cy + k) r)
+  past : (dir : ℕ) → dir < 8 → (InMoved r p h (endX (cx + r) r dir) (endY (cy + r) r dir) → ⊥)
+      → Outside p h (λ k. circleOn (cx + k) (cy + k) r)
   past dir b f = record {
     moved = r;
     x = endX (cx + r) r dir;

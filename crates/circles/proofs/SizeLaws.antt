@@ -3,7 +3,7 @@
 -- follows from 2i² ≤ r². No i and no y is more than r.
 use mathlib.Core.Path.{_≡_, refl, sym, ap, ap₂, _∙_}
 use mathlib.Core.Bool.{Bool, true, false, cond}
-use Prim.Native.Nat.{ℕ, zero, suc, _+_, _-_, _*_, _≤_, _<_}
+use Prim.Native.Nat.{ℕ, zero, suc, _+_, _-_, _*_, _%_, _≤_, _<_}
 use native.Mathlib.Nat.{mul-assoc, mul-le-mul}
 use native.Mathlib.Omega.{arith}
 use native.Mathlib.Decide.{decLt}
@@ -49,7 +49,8 @@ module _ (r : ℕ) (pos : 0 < r) where
       (λ e.
       let f : circleOut r i * circleOut r i ≡ i * i = ap (λ (y : ℕ). y * y) (eqb-true (circleOut r i) i e) in
       le-leb (r * r) (2 * (i * i) + i) (omega (arith, eqb-true (circleOut r i) i e, out-of r pos i (omega arith) .outer)))
-      (λ e. eq-eqb (circleOut r i) i (out-is (record { inner = inside (decLt 0 i); outer = omega (arith, leb-true (r * r) (2 * (i * i) + i) e) })))
+      (λ e. eq-eqb (circleOut r i) i
+      (out-is (record { inner = inside (decLt 0 i); outer = omega (arith, leb-true (r * r) (2 * (i * i) + i) e) })))
 
   -- where they coincide there is a dot past the axis
   coincide-pos : coincide r ≡ true → 0 < i
@@ -109,7 +110,8 @@ abbrev pub arcDots : ℕ → ℕ → ℕ
 arcDots r dir = suc (arcDc r dir) - arcDm dir
 
 pub circle-dots : (r : ℕ) → 0 < r
-    → arcDots r 0 + arcDots r 1 + arcDots r 2 + arcDots r 3 + arcDots r 4 + arcDots r 5 + arcDots r 6 + arcDots r 7 ≡ 8 * largest r + cond (coincide r) 0 4
+    → arcDots r 0 + arcDots r 1 + arcDots r 2 + arcDots r 3 + arcDots r 4 + arcDots r 5 + arcDots r 6 + arcDots r 7
+    ≡ 8 * largest r + cond (coincide r) 0 4
 unfolding arcDc arcDm
 circle-dots r pos = omega (arith, go (coincide r) (coincide-pos r pos))
   where
@@ -119,9 +121,20 @@ circle-dots r pos = omega (arith, go (coincide r) (coincide-pos r pos))
     go true f = omega (arith, f refl)
     go false f = omega arith
 
+-- "so never at radius 1, where odd arcs have DC 0 and draw nothing"
+pub one-coincides-not : coincide 1 ≡ false
+unfolding coincide circleOut outBelow largest lastBelow
+one-coincides-not = refl
+
+pub one-draws-none : (dir : ℕ) → dir % 2 ≡ 1 → (arcDc 1 dir ≡ 0) × (dotsOf 1 dir ≡ 0)
+unfolding arcDc arcDm coincide circleOut outBelow largest lastBelow
+one-draws-none dir odd = (refl, omega arith)
+
 -- "at most 5,788 dots" in a circle that fits a plane
 pub dots-most : (r : ℕ) → r ≤ 1023 → 8 * largest r + cond (coincide r) 0 4 ≤ 5788
-dots-most r b = cases (λ (v : ℕ). 8 * largest r + v ≤ 5788) (coincide r) (λ e. omega (arith, below (decLt 723 (largest r)))) (λ e. omega (arith, below (decLt 723 (largest r))))
+dots-most r b =
+    cases (λ (v : ℕ). 8 * largest r + v ≤ 5788) (coincide r) (λ e. omega (arith, below (decLt 723 (largest r))))
+    (λ e. omega (arith, below (decLt 723 (largest r))))
   where
     below : Dec (723 < largest r) → largest r ≤ 723
     below (yes k) =

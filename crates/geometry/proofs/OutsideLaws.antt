@@ -188,8 +188,7 @@ module _ (x0 y0 x1 y1 : ℕ) where
       let r = some-found (λ i. eqb x (lineX x0 x1 dx dy i) && eqb y (lineY y0 y1 dx dy i)) (max dx dy) on in
       let s = pair-same x (lineX x0 x1 dx dy (r .0)) y (lineY y0 y1 dx dy (r .0)) (r .2) in
       let u = far-x dx dy (leb dy dx) refl (r .0) (r .1) in
-      let v = far-y dx dy (leb dy dx) refl (r .0) (r .1) in
-      (
+      let v = far-y dx dy (leb dy dx) refl (r .0) (r .1) in (
         subst (λ (z : ℕ). low ≤ z) (sym (s .0)) (toward-ge x0 x1 _ low u a b),
         subst (λ (z : ℕ). low ≤ z) (sym (s .1)) (toward-ge y0 y1 _ low v c d),
         subst (λ (z : ℕ). z < right) (sym (s .0)) (toward-lt x0 x1 _ right u e f),

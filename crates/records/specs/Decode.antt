@@ -1,5 +1,5 @@
--- 01, Drawing sheets and Numbers of refusal, and 02's M-100: what a record stands for, and 16 to 18 in their order. The plane has no part in it: 19 is
--- a test of the figure (specs/Inside).
+-- 01, Drawing sheets and Numbers of refusal, and 02's M-100: what a record stands for, and 16 to 18 in their order. The plane has no part
+-- in it: 19 is a test of the figure (specs/Inside).
 use Prim.Native.Nat.{ℕ}
 use mathlib.Core.List.{List}
 use mathlib.Core.Bool.{Bool, cond, not, _&&_, _||_}

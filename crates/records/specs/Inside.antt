@@ -1,5 +1,6 @@
 -- 01, Numbers of refusal, 19, "a dot outside", judged in plain numbers: a line or rectangle by its corners, a glyph by its square,
--- a circle by its four ends. That this is the same as "some dot of the figure lies outside the plane" is a law of crate demand (proofs/InsideLaws).
+-- a circle by its four ends. That this is the same as "some dot of the figure lies outside the plane" is a law of crate demand
+-- (proofs/InsideLaws).
 use Prim.Native.Nat.{ℕ, _+_, _*_}
 use mathlib.Core.Bool.{Bool, cond, _&&_}
 use lib.Dec.{ltb, leb}

@@ -1,6 +1,6 @@
 -- A block is not refused exactly if it is a `LawfulBlock`, a record exactly if it is a `LawfulRecord`. True because each test says one of
--- 01's conditions in numbers; and the test of the corners, of the square or of a circle's ends holds exactly if every dot of the record's shape lies in the
--- plane (`Judges` of crate geometry).
+-- 01's conditions in numbers; and the test of the corners, of the square or of a circle's ends holds exactly if every dot of the record's
+-- shape lies in the plane (`Judges` of crate geometry).
 use mathlib.Core.Path.{_≡_, refl, sym}
 use mathlib.Core.Bool.{Bool, true, false, cond, _&&_}
 use mathlib.Core.List.{List}
@@ -24,7 +24,8 @@ use Rattle.records.specs.Decode.{recordFormB, knownB, factorB, radiusB, figureO
 use Rattle.records.specs.Inside.{insideB, judged}
 use Rattle.records.specs.Refused.{numberOf}
 use Rattle.records.proofs.TestLaws.{and-both}
-use Rattle.records.proofs.FormLaws.{Formed, form-means, form-is, known-means, known-is, factor-means, factor-is, radius-means, radius-is, else-circle}
+use Rattle.records.proofs.FormLaws.{Formed, form-means, form-is, known-means, known-is, factor-means, factor-is, radius-means, radius-is}
+use Rattle.records.proofs.FormLaws.{else-circle}
 use Rattle.blocks.specs.Block.{checkOf, countOf, checkB, numberB, countB, lastB, spareB, unusedB, headB, blockRefusal}
 use Rattle.blocks.proofs.BlockLaws.{zeros-all, all-zeros}
 use Rattle.sheets.specs.Lawful.{LawfulBlock, recordOn, LawfulRecord}
@@ -113,7 +114,8 @@ module _ (p h glyphs : ℕ) where
       (λ a. by-test (eqb (r .kind) 2) _ _ _ _ (λ e. line-judged p h (r .x) (r .y) (r .x1) (r .y1))
       (λ b. by-test (eqb (r .kind) 3) _ _ _ _ (λ e. border-judged p h (r .x) (r .y) (r .x1) (r .y1))
       (λ c. by-test (eqb (r .kind) 4) _ _ _ _ (λ d. square-judged (r .x) (r .y) (r .factor) (some .factor (eqb-true _ 4 d)) p h)
-      (λ d. circle-judged (r .x) (r .y) (r .x1) (some .radius (eqb-false _ 1 a) (eqb-false _ 2 b) (eqb-false _ 3 c) (eqb-false _ 4 d)) p h))))
+      (λ d. circle-judged (r .x) (r .y) (r .x1)
+      (some .radius (eqb-false _ 1 a) (eqb-false _ 2 b) (eqb-false _ 3 c) (eqb-false _ 4 d)) p h))))
 
   sized : (r : Raw) → Formed r → (r .kind ≡ glyphKind → (1 ≤ r .factor) × (r .factor ≤ 16))
       → (r .kind ≡ circleKind → (1 ≤ r .x1) × (r .x1 ≤ 2000)) → Sized r
@@ -151,7 +153,8 @@ module _ (p h glyphs : ℕ) where
     pub record-lawful : numberOf (judged m (decodedOf r glyphs)) ≡ 0 → LawfulRecord p h glyphs r
     unfolding decodedOf
     record-lawful e =
-        let w = tests (recordFormB r) (knownB r glyphs) (factorB r) (radiusB r) _ 0 e (λ k. omega arith) (λ k. omega arith) (λ k. omega arith) in
+        let w = tests (recordFormB r) (knownB r glyphs) (factorB r) (radiusB r) _ 0 e (λ k. omega arith) (λ k. omega arith)
+        (λ k. omega arith) in
         let f = form-means r (w .0) in
         let g = factor-means r (w .2) in
         let s = radius-means r (w .3) in
@@ -191,7 +194,8 @@ module _ (p h glyphs : ℕ) where
     pub nineteen-means : numberOf (judged m (decodedOf r glyphs)) ≡ 19 → Outside p h (recordOn r)
     unfolding decodedOf
     nineteen-means e =
-        let w = tests (recordFormB r) (knownB r glyphs) (factorB r) (radiusB r) _ 19 e (λ k. omega arith) (λ k. omega arith) (λ k. omega arith) in
+        let w = tests (recordFormB r) (knownB r glyphs) (factorB r) (radiusB r) _ 19 e (λ k. omega arith) (λ k. omega arith)
+        (λ k. omega arith) in
         record-judged r (sized r (form-means r (w .0)) (factor-means r (w .2)) (radius-means r (w .3)))
         .outside (test-out (insideB m (figureOf r)) _ (w .4))
 

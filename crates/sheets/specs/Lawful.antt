@@ -1,4 +1,5 @@
--- A sheet that 01, with 02's circles (M-100), accepts: its conditions in the order of its table of refusals, each a line, and no word of how the translator looks.
+-- A sheet that 01, with 02's circles (M-100), accepts: its conditions in the order of its table of refusals, each a line, and no word of
+-- how the translator looks.
 -- `accepts`, `tells-need` and `accepted-only` of proofs/AcceptLaws show that the translator answers 0, or 20 where the output is too short,
 -- exactly for these.
 use mathlib.Core.Path.{_≡_}

@@ -16,7 +16,12 @@ end-y-requires c κs = search needs
 
 word-of-requires : tie.Need-word-of-requires
 word-of-requires c κs =
-    omega (arith, c .end-y .ensures, end-small (c .before .before .args .c .y) (c .before .before .args .r) (c .before .before .args .dir) (search needs) (search needs) (search needs))
+    omega (
+      arith,
+      c .end-y .ensures,
+      end-small (c .before .before .args .c .y) (c .before .before .args .r) (c .before .before .args .dir)
+          (search needs) (search needs) (search needs),
+    )
 
 less-requires : tie.Need-less-requires
 less-requires c κs = search needs
@@ -57,13 +62,13 @@ returns c =
     let a = c .before .before .before .before .before .args in
     let dc : a .dc ≡ arcDc (a .r) (a .dir) = search needs in
     rw (
-  dc,
-  c .third .ensures,
-  c .before .less .ensures,
-  c .before .before .word-of .ensures,
-  c .before .before .before .end-y .ensures,
-  c .before .before .before .before .end-x .ensures,
-)
+      dc,
+      c .third .ensures,
+      c .before .less .ensures,
+      c .before .before .word-of .ensures,
+      c .before .before .before .end-y .ensures,
+      c .before .before .before .before .end-x .ensures,
+    )
 
 pub arc-entries-spec : {M : Type 1} → statement M
 arc-entries-spec =

@@ -2,7 +2,6 @@
 -- each turn.
 use borrow.Author.Needs.{needs}
 use Prim.Native.Nat.{_+_, _-_, _*_, _≤_}
-use native.Mathlib.Omega.{arith}
 use mathlib.Core.Path.{_≡_, refl, sym, ap, _∙_}
 use lib.ListN.{length}
 use Rattle.entries.specs.Entries.{placed, arcsFrom, circleEntries}
@@ -12,7 +11,8 @@ use Rattle.entries.proofs.put_circle.Tie as tie
 
 abbrev Inv-loop : tie.InvT-loop
 Inv-loop out₀ at p c r largest coincide dir₀ out dir =
-    (dir ≤ 8) × (length out ≡ length out₀) × (placed out₀ at (circleEntries p c r) ≡ placed out (at + 20 * dir) (arcsFrom p c r (8 - dir) dir))
+    (dir ≤ 8) × (length out ≡ length out₀) × (placed out₀ at (circleEntries p c r)
+    ≡ placed out (at + 20 * dir) (arcsFrom p c r (8 - dir) dir))
 
 abbrev μ-loop : tie.MeasureT-loop
 μ-loop out₀ at p c r largest coincide dir₀ out dir = 8 - dir
@@ -39,12 +39,11 @@ add-put-from : tie.Need-add-put-from Inv-loop μ-loop
 add-put-from c = search needs
 
 arc-entries-requires : tie.Need-arc-entries-requires Inv-loop μ-loop
-arc-entries-requires c κs =
-    (
-      search needs,
-      dc-is _ _ (c .before .before .before .before .before .largest-of .ensures) (c .before .before .before .before .coincides .ensures)
-          (c .before .dc-of .ensures),
-    )
+arc-entries-requires c κs = (
+  search needs,
+  dc-is _ _ (c .before .before .before .before .before .largest-of .ensures) (c .before .before .before .before .coincides .ensures)
+      (c .before .dc-of .ensures),
+)
 
 slice-aggregate-put-from : tie.Need-slice-aggregate-put-from Inv-loop μ-loop
 slice-aggregate-put-from c = search needs
