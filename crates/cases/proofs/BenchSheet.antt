@@ -8,7 +8,7 @@ use Rattle.registers.specs.Size.{dotsOf}
 use Rattle.registers.specs.Sound.{allBelow, soundB}
 use Rattle.registers.specs.Buffer.{pushed, oldest, popped}
 use Rattle.commands.specs.Decode.{familyOf, commandOf}
-use Rattle.processor.specs.Command.{figureBegun, commandTaken}
+use Rattle.processor.specs.Command.{figureBegun, figdTaken, commandTaken}
 use Rattle.parameters.specs.Parameter.{cursBy, ramBy, pitchBy, maskBy, figsBy}
 use Rattle.wdat.specs.Wdat.{setDone, wdatTaken}
 use Rattle.processor.specs.Entry.{nextOf, parameterTaken, entryTaken}
@@ -22,7 +22,7 @@ use Rattle.cases.specs.BenchSheet.{bench, BenchHolds}
 
 pub bench-holds : BenchHolds
 unfolding bench oneBit combined bit ofBits freshSet dotsOf allBelow soundB pushed oldest popped familyOf commandOf operationOf figureBegun
-    commandTaken cursBy ramBy pitchBy maskBy figsBy setDone wdatTaken nextOf parameterTaken entryTaken patternOf patternAt lineDirection
-    errorAfter directionAt runningD figureMoved figureUnit fetched unitDone reasonOf runFrom lengthB runDone queuedOr3 commandWritten
-    parameterWritten byteRead dirOf slopeOf lineEntries entriesOf translated translation
+    figdTaken commandTaken cursBy ramBy pitchBy maskBy figsBy setDone wdatTaken nextOf parameterTaken entryTaken patternOf patternAt
+    lineDirection errorAfter directionAt runningD figureMoved figureUnit fetched unitDone reasonOf runFrom lengthB runDone queuedOr3
+    commandWritten parameterWritten byteRead dirOf slopeOf lineEntries entriesOf translated translation
 bench-holds = (refl, (refl, (refl, (refl, (refl, (refl, (refl, (refl, (refl, (refl, (refl, (refl, (refl, (refl, (refl, tt)))))))))))))))

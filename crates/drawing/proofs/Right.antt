@@ -80,7 +80,7 @@ module _ (sheet : List ℕ) (p h : ℕ) (glyphs : List ℕ) (entries : List ℕ)
   size : length all ≡ a .first
   size = translation-length glyphs p figures ∙ sym (translated-means sheet p h glyphs entries refl accepted .first)
 
-  pub few : length all ≤ 16802
+  pub few : length all ≤ 128802
   unfolding slotFigures
   few =
       let k = translated-means sheet p h glyphs entries refl accepted .frame in

@@ -47,7 +47,7 @@ played-within r entries mem n words {k} {m} many used done =
 
 -- ---- the drawing of a sheet
 module _ (r : Registers) (d : Desk) (mem papers : List ℕ) {a : Answer} {e : List ℕ}
-    (t : translatedTo a e ≡ translatedIn d papers (replicate 16802 0) 16802) where
+    (t : translatedTo a e ≡ translatedIn d papers (replicate 128802 0) 128802) where
   by-answer : drawingDone r d mem papers ≡ drawnBy (translatedTo a e) r mem (d .words)
   unfolding drawingDone
   by-answer = ap (λ (x : Translated). drawnBy x r mem (d .words)) (sym t)

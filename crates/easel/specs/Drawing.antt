@@ -61,4 +61,4 @@ drawnBy t r mem words =
 
 -- no translation is longer than 16,802 entries
 unfoldable pub drawingDone : Registers → Desk → List ℕ → List ℕ → Drew
-drawingDone r d mem papers = drawnBy (translatedIn d papers (replicate 16802 0) 16802) r mem (d .words)
+drawingDone r d mem papers = drawnBy (translatedIn d papers (replicate 128802 0) 128802) r mem (d .words)

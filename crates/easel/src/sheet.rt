@@ -45,14 +45,14 @@ fn translation_told(a: blocks::Answer, entries: &[u16], out: &mut [u8], held: us
 // What `T n` writes; how many characters are held then. No translation is longer than the entries that are lent here, so a greater
 // room changes nothing.
 pub fn translation(d: Desk, room: u32, papers: &[u8], out: &mut [u8]) -> usize {
-    let mut entries = [0u16; 16802];
+    let mut entries = [0u16; 128802];
     let a = translated(d, papers, &mut entries, room as usize);
     translation_told(a, &entries, out, d.held)
 }
 
 // Each entry is sent and the controller run until it is idle, or a read awaits room; one that is refused changes nothing.
 fn send_all(r: Registers, entries: &[u16], mem: &mut [u16]) -> Sent
-    requires { ⌜ length (now entries) ≤ 16802 ⌝ }
+    requires { ⌜ length (now entries) ≤ 128802 ⌝ }
     ensures { λ q. ⌜ outcome q (now (mem .exit)) ≡ played (state r (now (mem .entry))) (now (entries .entry)) ⌝ }
 {
     let mut q = r;
@@ -72,7 +72,7 @@ fn send_all(r: Registers, entries: &[u16], mem: &mut [u16]) -> Sent
 
 // The first n entries are sent, over the words that the memory has.
 fn send_within(r: Registers, entries: &[u16], n: u32, mem: &mut [u16], most: usize) -> Sent
-    requires { ⌜ length (now entries) ≤ 16802 ⌝ }
+    requires { ⌜ length (now entries) ≤ 128802 ⌝ }
     ensures { λ q. ⌜ outcome q (now (mem .exit)) ≡ playedWithin r (partOf n (now (entries .entry))) (now (mem .entry)) most ⌝ }
 {
     let count = buffers::words_used(n as usize, entries);
@@ -101,8 +101,8 @@ fn drawing_done(a: blocks::Answer, s: Sent) -> Done
 pub fn drawing(r: Registers, d: Desk, mem: &mut [u16], papers: &[u8]) -> Done
     ensures { λ q. ⌜ drew q (now (mem .exit)) ≡ drawingDone r d (now (mem .entry)) (now (papers .entry)) ⌝ }
 {
-    let mut entries = [0u16; 16802];
-    let a = translated(d, papers, &mut entries, 16802);
+    let mut entries = [0u16; 128802];
+    let a = translated(d, papers, &mut entries, 128802);
     if a.number != 0 {
         return drawing_done(a, Sent { regs: r, units: 0 });
     }

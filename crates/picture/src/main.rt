@@ -66,7 +66,7 @@ fn show(mem: &[u16], p: u32, h: u32) {
 
 // The sheet is drawn from fresh registers over a memory of zeros.
 fn draw(sheet: &[u8], p: u32, h: u32, glyphs: &[u8], mem: &mut [u16]) {
-    let mut entries = [0u16; 16802];
+    let mut entries = [0u16; 128802];
     let d = drawing::draw_sheet(sheet, p, h, glyphs, registers::fresh(), &mut entries, mem);
     if d.number != 0 {
         sentences::say_refusal(2, d.number, d.first, d.second);

@@ -16,7 +16,7 @@ use Rattle.easel.proofs.sheet.send_all.Statement.{statement}
 use Rattle.easel.proofs.sheet.send_all.Tie as tie
 
 record Going (entries mem₀ : List ℕ) (q₀ : Registers) (mem : List ℕ) (q : Registers) (units i : ℕ) : Type 0 where
-  short : length entries ≤ 16802
+  short : length entries ≤ 128802
   within : i ≤ length entries
   long : length mem ≡ length mem₀
   few : units ≤ 1168231104240 * i
