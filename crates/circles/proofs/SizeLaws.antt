@@ -126,7 +126,7 @@ pub one-coincides-not : coincide 1 ≡ false
 unfolding coincide circleOut outBelow largest lastBelow
 one-coincides-not = refl
 
-pub one-draws-none : (dir : ℕ) → dir % 2 ≡ 1 → (arcDc 1 dir ≡ 0) × (dotsOf 1 dir ≡ 0)
+pub one-draws-none : (dir : ℕ) → dir % 2 ≡ 1 → (arcDc 1 dir ≡ 0) × (arcDots 1 dir ≡ 0)
 unfolding arcDc arcDm coincide circleOut outBelow largest lastBelow
 one-draws-none dir odd = (refl, omega arith)
 
