@@ -106,11 +106,11 @@ circle-end cx cy r pos left top dir b =
     ap₂ (circleOn cx cy r) (sym (e .0)) (sym (e .1)) ∙ arc-circle cx cy r pos 0 (omega arith) left top dir
 
 -- ---- how many dots
-abbrev pub dotsOf : ℕ → ℕ → ℕ
-dotsOf r dir = suc (arcDc r dir) - arcDm dir
+abbrev pub arcDots : ℕ → ℕ → ℕ
+arcDots r dir = suc (arcDc r dir) - arcDm dir
 
 pub circle-dots : (r : ℕ) → 0 < r
-    → dotsOf r 0 + dotsOf r 1 + dotsOf r 2 + dotsOf r 3 + dotsOf r 4 + dotsOf r 5 + dotsOf r 6 + dotsOf r 7
+    → arcDots r 0 + arcDots r 1 + arcDots r 2 + arcDots r 3 + arcDots r 4 + arcDots r 5 + arcDots r 6 + arcDots r 7
     ≡ 8 * largest r + cond (coincide r) 0 4
 unfolding arcDc arcDm
 circle-dots r pos = omega (arith, go (coincide r) (coincide-pos r pos))
@@ -126,7 +126,7 @@ pub one-coincides-not : coincide 1 ≡ false
 unfolding coincide circleOut outBelow largest lastBelow
 one-coincides-not = refl
 
-pub one-draws-none : (dir : ℕ) → dir % 2 ≡ 1 → (arcDc 1 dir ≡ 0) × (dotsOf 1 dir ≡ 0)
+pub one-draws-none : (dir : ℕ) → dir % 2 ≡ 1 → (arcDc 1 dir ≡ 0) × (arcDots 1 dir ≡ 0)
 unfolding arcDc arcDm coincide circleOut outBelow largest lastBelow
 one-draws-none dir odd = (refl, omega arith)
 

@@ -118,7 +118,7 @@ module _ (cx cy r : ℕ) (pos : 0 < r) (most : r ≤ 2000) (left : r ≤ cx) (to
 
   module _ (p h : ℕ) (right : cx + r < 16 * p) (bottom : cy + r < h) where
     -- a circle whose four ends are in the plane lies in it
-    pub arc-plane : (dir i : ℕ) → i ≤ largest r → InPlane p h (arcX cx r dir i) (arcY cy r dir i)
+    arc-plane : (dir i : ℕ) → i ≤ largest r → InPlane p h (arcX cx r dir i) (arcY cy r dir i)
     unfolding arcX arcY
     arc-plane dir i k = go (wayOf dir .across) (wayOf dir .right) (wayOf dir .down)
       where

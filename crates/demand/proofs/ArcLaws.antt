@@ -1,5 +1,6 @@
 -- An arc, from CURS to its last dot, the operation being set: if the cycles of its registers change a shape of the plane once, then its
--- entries are accepted and change just that shape. The twin of `figd-law`; an arc with DM above DC makes no cycle, and its shape has no dot.
+-- entries are accepted and change just that shape. The twin of `figd-law`; an arc with DM above DC makes no cycle, and its shape has no
+-- dot.
 use mathlib.Core.Path.{_≡_, refl, sym}
 use mathlib.Core.List.{List, [], _∷_, _++_}
 use Prim.Native.Nat.{ℕ, zero, suc, _+_, _%_, _<_}

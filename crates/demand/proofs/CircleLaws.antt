@@ -3,8 +3,7 @@
 -- have a dot in common, and together they are the circle (crate circles), so one after the other they change each of its dots once.
 use mathlib.Core.Path.{_≡_, refl, sym, ap, _∙_}
 use mathlib.Core.Bool.{Bool, true, false, cond, _||_, true≢false}
-use mathlib.Core.List.{List, [], _∷_, _++_}
-use Prim.Native.Nat.{ℕ, zero, suc, _+_, _-_, _*_, _%_, _≤_, _<_}
+use Prim.Native.Nat.{ℕ, zero, suc, _+_, _-_, _*_, _≤_, _<_}
 use native.Mathlib.Omega.{arith}
 use native.Mathlib.Decide.{ℕ-discrete}
 use Rattle.dots.specs.declared.Operation.{Operation}
@@ -15,8 +14,7 @@ use Rattle.geometry.proofs.CycleLaws.{eitherOn}
 use Rattle.records.specs.declared.Point.{Point}
 use Rattle.circles.specs.Circle.{largest, coincide, arcDm, arcDc, endX, endY, arcOn}
 use Rattle.circles.proofs.CircleLaws.{at-most, arcs-disjoint, circle-is}
-use Rattle.circles.proofs.SizeLaws as sizes
-use Rattle.circles.proofs.SizeLaws.{largest-le, circle-plane, circle-end, circle-dots}
+use Rattle.circles.proofs.SizeLaws.{largest-le, circle-plane, circle-end, arcDots, circle-dots}
 use Rattle.entries.specs.Entries.{arcStart, arcFigs, arcEntries, arcsFrom, circleEntries}
 use Rattle.registers.specs.declared.Drawing.{Drawing}
 use Rattle.registers.specs.Size.{arcCyclesOf}
@@ -35,7 +33,8 @@ abbrev arcDrawing : ℕ → ℕ → Drawing
 arcDrawing r dir =
     record { kind = 4; dir = dir; gd = false; dc = arcDc r dir; d = r - 1; d2 = 2 * (r - 1); d1 = 16383; dm = arcDm dir }
 
-module _ (p h : ℕ) (sized : Sized p h) (op : Operation) (c : Point) (r : ℕ) (some : 0 < r) (few : r ≤ 2000) (left : r ≤ c .x) (top : r ≤ c .y)
+module _ (p h : ℕ) (sized : Sized p h) (op : Operation) (c : Point) (r : ℕ) (some : 0 < r) (few : r ≤ 2000) (left : r ≤ c .x)
+    (top : r ≤ c .y)
     (right : c .x + r < 16 * p) (low : c .y + r < h) where
   starts : (dir : ℕ) → dir < 8 → InPlane p h (endX (c .x) r dir) (endY (c .y) r dir)
   starts dir b = circle-plane (c .x) (c .y) r p h right low _ _ (circle-end (c .x) (c .y) r some left top dir b)
@@ -58,19 +57,21 @@ module _ (p h : ℕ) (sized : Sized p h) (op : Operation) (c : Point) (r : ℕ) 
         let d = sends-d (dc .waits) (r - 1) (omega arith) refl in
         let d2 = sends-d2 (d .waits) (2 * (r - 1)) (omega arith) refl in
         let d1 = sends-d1 (d2 .waits) 16383 (omega arith) refl in
-        acts-then one (acts-then dc (acts-then d (acts-then d2 (acts-then d1 (sends-dm (d1 .waits) (arcDm dir) (omega (arith, dm-lt dir)) refl)))))
+        acts-then one
+        (acts-then dc (acts-then d (acts-then d2 (acts-then d1 (sends-dm (d1 .waits) (arcDm dir) (omega (arith, dm-lt dir)) refl)))))
 
     cycles-are : suc (arcDc r dir) - arcDm dir ≡ arcCyclesOf (arcDrawing r dir)
     unfolding arcCyclesOf
     cycles-are = omega arith
 
-    one-arc : Draws p h op (arcOn (c .x) (c .y) r dir) solid s (arcEntries p c r dir) (sizes.dotsOf r dir)
+    one-arc : Draws p h op (arcOn (c .x) (c .y) r dir) solid s (arcEntries p c r dir) (arcDots r dir)
     unfolding arcEntries
     one-arc =
         draws-as (λ x y. refl) (sym cycles-are)
         (arc-law p h sized s held op is (arcStart c r dir) (starts dir b) (arcFigs dir (arcDc r dir) r (arcDm dir)) (arcDrawing r dir) 11
         (arcOn (c .x) (c .y) r dir) sets refl (omega (arith, cycles-are, dc-lt dir))
-        (λ t ones. rw (← cycles-are) (arc-drawn (c .x) (c .y) r some few left top p h right low sized op (s .mem) (held .room) dir b t ones)))
+        (λ t ones. rw (← cycles-are) (arc-drawn (c .x) (c .y) r some few left top p h right low sized op (s .mem)
+        (held .room) dir b t ones)))
 
   -- n arcs from dir on: their dots, and how many
   abbrev fromOn : ℕ → ℕ → Shape
@@ -79,7 +80,7 @@ module _ (p h : ℕ) (sized : Sized p h) (op : Operation) (c : Point) (r : ℕ) 
 
   abbrev dotsFrom : ℕ → ℕ → ℕ
   dotsFrom zero dir = 0
-  dotsFrom (suc n) dir = sizes.dotsOf r dir + dotsFrom n (suc dir)
+  dotsFrom (suc n) dir = arcDots r dir + dotsFrom n (suc dir)
 
   from-found : (n dir x y : ℕ) → fromOn n dir x y ≡ true → (k : ℕ) × (dir ≤ k) × (k < dir + n) × (arcOn (c .x) (c .y) r k x y ≡ true)
   from-found zero dir x y e = absurd (true≢false (sym e))
@@ -120,7 +121,8 @@ module _ (p h : ℕ) (sized : Sized p h) (op : Operation) (c : Point) (r : ℕ) 
   whole x y =
       same-test (fromOn 8 0 x y) (someTo 7 (λ dir. arcOn (c .x) (c .y) r dir x y))
       (λ e. let f = from-found 8 0 x y e in some-at (λ dir. arcOn (c .x) (c .y) r dir x y) 7 (f .0) (omega (arith, f .2)) (f .3))
-      (λ e. let f = some-found (λ dir. arcOn (c .x) (c .y) r dir x y) 7 e in from-at 8 0 (f .0) x y (omega arith) (omega (arith, f .1)) (f .2))
+      (λ e. let f = some-found (λ dir. arcOn (c .x) (c .y) r dir x y) 7 e in
+      from-at 8 0 (f .0) x y (omega arith) (omega (arith, f .1)) (f .2))
       ∙ circle-is (c .x) (c .y) r some left top x y
 
   counts : (t : Bool) → 8 * largest r + cond t 0 4 ≡ 8 * largest r + 4 - cond t 4 0

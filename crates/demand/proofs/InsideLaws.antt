@@ -1,4 +1,5 @@
--- Every figure that a sheet holds lies in the plane: a figure that was decoded has a factor of 1 to 16 or a radius of 1 to 2,000, it is taken
+-- Every figure that a sheet holds lies in the plane: a figure that was decoded has a factor of 1 to 16 or a radius of 1 to 2,000, it is
+-- taken
 -- only where its corners, its square or its four ends pass the test of 19, and a record that is refused gives none. No word of what else is
 -- refused.
 -- And that test is true exactly if every dot of the figure's shape lies in the plane, false exactly if one lies outside.
@@ -13,6 +14,7 @@ use Rattle.dots.specs.Operation.{operationOf}
 use Rattle.geometry.specs.Plane.{InPlane}
 use Rattle.geometry.proofs.TestLaws.{cases, and-both}
 use Rattle.geometry.proofs.OutsideLaws.{Judges, dot-judged, line-judged, border-judged, square-judged}
+use Rattle.circles.proofs.OutsideLaws.{circle-judged}
 use Rattle.records.specs.declared.Raw.{Raw}
 use Rattle.records.specs.declared.Room.{Room}
 use Rattle.records.specs.declared.Point.{Point}
@@ -158,9 +160,21 @@ module _ (p h k : ℕ) where
     sheet-inside n = in-from (50 * n) 0
 
 -- ---- 19 is "a dot outside"
--- the test of 19 judges the figure's own shape, dot by dot
-pub figure-judged : (p h k : ℕ) (f : Figure) → Measured f → Judges p h (insideB (roomOf p h k) f) (figureOn f)
-figure-judged p h k (Dot a) w = dot-judged p h (a .x) (a .y)
-figure-judged p h k (Line a b) w = line-judged p h (a .x) (a .y) (b .x) (b .y)
-figure-judged p h k (Rectangle a b) w = border-judged p h (a .x) (a .y) (b .x) (b .y)
-figure-judged p h k (Glyph a n g) w = square-judged (a .x) (a .y) g (w .0) p h
+-- a figure moved right and down by k
+abbrev pointShifted : ℕ → Point → Point
+pointShifted k a = record { x = a .x + k; y = a .y + k }
+
+abbrev pub figureShifted : ℕ → Figure → Figure
+figureShifted k (Dot a) = Dot (pointShifted k a)
+figureShifted k (Line a b) = Line (pointShifted k a) (pointShifted k b)
+figureShifted k (Rectangle a b) = Rectangle (pointShifted k a) (pointShifted k b)
+figureShifted k (Glyph a n g) = Glyph (pointShifted k a) n g
+figureShifted k (Circle a r) = Circle (pointShifted k a) r
+
+-- the test of 19 judges the figure's own shape, dot by dot: figure and plane being moved alike, a dot left of the plane or above it too
+pub figure-judged : (p h g : ℕ) (f : Figure) → Measured f → Judges p h (insideB (roomOf p h g) f) (λ k. figureOn (figureShifted k f))
+figure-judged p h g (Dot a) w = dot-judged p h (a .x) (a .y)
+figure-judged p h g (Line a b) w = line-judged p h (a .x) (a .y) (b .x) (b .y)
+figure-judged p h g (Rectangle a b) w = border-judged p h (a .x) (a .y) (b .x) (b .y)
+figure-judged p h g (Glyph a n f) w = square-judged (a .x) (a .y) f (w .0) p h
+figure-judged p h g (Circle a r) w = circle-judged (a .x) (a .y) r (w .0) p h

@@ -1,15 +1,16 @@
--- Figures on blank paper, by computing: under COMPLEMENT a border changes its corner and a flat one its middle once; a glyph's bit 0
--- is its leftmost dot and its first row the top one; of two figures the later one decides.
+-- Figures on blank paper, by computing: under COMPLEMENT a border changes its corner and a flat one its middle once, and a circle the dots
+-- where its octants meet; a glyph's bit 0 is its leftmost dot and its first row the top one; of two figures the later one decides.
 use mathlib.Core.Path.{_≡_, refl}
 use mathlib.Core.List.{[], _∷_}
 use Prim.Native.Nat.{ℕ}
 use Rattle.dots.specs.declared.Operation.the-variants.{Complement, Reset, Set}
 use Rattle.dots.specs.Bit.{bit}
 use Rattle.dots.specs.Logic.{oneBit}
-use Rattle.geometry.specs.Plane.{Picture, changed, borderOn, squareOn, glyphInk}
+use Rattle.geometry.specs.Plane.{Picture, changed, borderOn, squareOn, glyphInk, liesOut, circleOn}
 use Rattle.records.specs.declared.Point.{Point}
-use Rattle.records.specs.declared.Figure.the-variants.{Dot, Rectangle, Glyph}
-use Rattle.demand.specs.Picture.{figureMade, figuresMade}
+use Rattle.records.specs.declared.Figure.the-variants.{Dot, Rectangle, Glyph, Circle}
+use Rattle.circles.specs.Circle.{outBelow, circleOut, lastBelow, largest, coincide}
+use Rattle.demand.specs.Picture.{figureMade, figuresMade, figureDots}
 
 abbrev blank : Picture
 blank x y = 0
@@ -43,3 +44,17 @@ later-decides : figuresMade [] (record { op = Set; figure = Dot (at 5 6) } ∷ r
     ≡ 0
 unfolding figuresMade changed oneBit
 later-decides = refl
+
+-- 02, M-100: "Each dot of the circle is changed once, also where octants meet": of radius 3 about (5, 5) the end of an axis, the dot beside
+-- it, the one on the diagonal, and the centre
+abbrev ring : ℕ → ℕ → ℕ
+ring x y = figureMade [] Complement (Circle (at 5 5) 3) blank x y
+
+circle-once : ring 5 2 ∷ ring 6 2 ∷ ring 7 3 ∷ ring 5 5 ∷ [] ≡ 1 ∷ 1 ∷ 1 ∷ 0 ∷ []
+unfolding changed circleOn liesOut oneBit
+circle-once = refl
+
+-- the four dots beside a dot, a circle whose octants' last dots coincide, and one whose do not
+circles-counted : figureDots (Circle (at 5 5) 1) ∷ figureDots (Circle (at 5 5) 3) ∷ figureDots (Circle (at 9 9) 7) ∷ [] ≡ 4 ∷ 16 ∷ 36 ∷ []
+unfolding largest lastBelow coincide circleOut outBelow
+circles-counted = refl

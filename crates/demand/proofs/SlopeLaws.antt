@@ -4,9 +4,8 @@ use mathlib.Core.Path.{_≡_, refl, sym, ap, ap₂, subst, _∙_}
 use mathlib.Core.Bool.{Bool, true, false, cond}
 use Prim.Native.Nat.{ℕ, zero, suc, _+_, _-_, _*_, _%_, _≤_, _<_}
 use native.Mathlib.Omega.{arith}
-use lib.Dec.{eqb, eqb→eq}
+use lib.Dec.{eqb}
 use borrow.Author.Tests.{leb-true, eq-eqb}
-use Rattle.dots.proofs.Below.{below}
 use Rattle.geometry.proofs.ErrorLaws.{Ruled, ruled, ruledOn}
 use Rattle.geometry.proofs.OctantLaws.{Octant}
 use Rattle.geometry.proofs.OctantLaws as octants

@@ -1,4 +1,5 @@
--- 01, Drawing sheets, Plane, and 02's circles (M-100): what a sheet's figures, taken in order, make of a picture, and how many dots they have.
+-- 01, Drawing sheets, Plane, and 02's circles (M-100): what a sheet's figures, taken in order, make of a picture, and how many dots they
+-- have.
 use mathlib.Core.Bool.{cond, _||_}
 use mathlib.Core.List.{List, [], _∷_}
 use Prim.Native.Nat.{ℕ, _+_, _-_, _*_, max}
@@ -36,7 +37,8 @@ figuresMade table [] pic = pic
 figuresMade table (r ∷ l) pic = figuresMade table l (figureMade table (r .op) (r .figure) pic)
 
 -- how many dots a figure has; a border goes all round, or there alone where it is "one dot wide or high"; each of a circle's eight octants
--- has "the largest i" dots beside the end of its axis, there are four such ends, and "where the octants' last dots coincide on the diagonal"
+-- has "the largest i" dots beside the end of its axis, there are four such ends, and "where the octants' last dots coincide on the
+-- diagonal"
 -- four of the last dots are each two octants'
 abbrev pub figureDots : Figure → ℕ
 figureDots (Dot a) = 1

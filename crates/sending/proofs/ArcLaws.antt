@@ -2,7 +2,7 @@
 -- over, and each but the last makes one more after its cycle; so cycle k is made DM + k moves from the start. An arc that draws nothing
 -- is over in FIGD's own unit, which moves the cursor alone.
 use mathlib.Core.Path.{_≡_, refl, ap, subst, _∙_}
-use mathlib.Core.Bool.{Bool, true, cond}
+use mathlib.Core.Bool.{true}
 use mathlib.Core.List.{List, [], _∷_}
 use Prim.Native.Nat.{ℕ, zero, suc, _+_, _≤_, _<_}
 use native.Mathlib.Nat.{add-suc, add-zero}
