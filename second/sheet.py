@@ -315,7 +315,7 @@ def translate_circle(picture, figure):
     # "after one WDAT its eight arcs go in order of DIR, each sent as a line
     # is"
     entries = []
-    for direction in range(8):
+    for direction in (0, 1, 2, 3, 4, 5, 6, 7):
         x, y = start_of_arc(figure, direction)
         numbers = numbers_of_arc(figure.radius, direction)
         entries += curs(picture, x, y) + pattern_of_ones() + figs(0x20 + direction, numbers) + [command(0x6C)]

@@ -2,11 +2,12 @@
 
     python3 against_plane.py --sheets N --seed S
 
-Each sheet is translated and drawn by the model of the controller from a
-random register set (write mode, empty buffer, nothing being drawn), and the
-memory is held against what plane.py paints. The first difference stops the
-program with the `assert` in bench.py. It tries the second program against
-itself and has no part in comparing it with the proved program.
+Each sheet, with circles among its figures, is translated and drawn by the
+model of the controller from a random register set (write mode, empty buffer,
+nothing being drawn), and the memory is held against what plane.py paints. The
+first difference stops the program with the `assert` in bench.py. It tries the
+second program against itself and has no part in comparing it with the proved
+program.
 """
 
 import argparse
@@ -26,7 +27,12 @@ from generate import Generator       # noqa: E402
 
 
 class Maker(Generator):
-    """The generator's sheets, with larger figures now and then."""
+    """The generator's sheets, with circles, and larger figures now and then."""
+
+    circles = 0.3
+
+    def circle_record(self, most, left):
+        return Generator.circle_record(self, most, left + (6000 if self.chance(0.1) else 0))
 
     def near(self, value, limit):
         if self.chance(0.1):
@@ -65,7 +71,8 @@ def one_sheet(maker, bench):
     assert bench.may_be_held_to_the_geometry()
     answer = bench.answer("X").split(" ")
     assert answer[:4] == ["X", "0", "%X" % needed, "0"], answer
-    return int(answer[4], 16)
+    circles = sum(body[4 + 10 * index] == 5 for body in bodies for index in range(body[2]))
+    return int(answer[4], 16), circles
 
 
 def main():
@@ -75,8 +82,9 @@ def main():
     wanted = parser.parse_args()
     maker, bench = Maker(random.Random(wanted.seed)), Bench()
     start = time.time()
-    units = sum(one_sheet(maker, bench) for _ in range(wanted.sheets))
-    print("%d sheets, %d units, no difference, %.0f s" % (wanted.sheets, units, time.time() - start))
+    drawn = [one_sheet(maker, bench) for _ in range(wanted.sheets)]
+    print("%d sheets with %d circles, %d units, no difference, %.0f s" % (
+        wanted.sheets, sum(circles for _, circles in drawn), sum(units for units, _ in drawn), time.time() - start))
 
 
 if __name__ == "__main__":
