@@ -54,12 +54,13 @@ class Figures:
         if dots >= 1:
             self.start_figure("arc", dots, self.dm)
         else:
-            # "The mask and cursor move on passed-over dots, ... in the unit
-            # ... that takes FIGD if no dot is left to draw; there 01's
-            # "changes nothing more" gives way and the DC moves are made."
+            # "... in the unit ... that takes FIGD if no dot is left to draw;
+            # there 01's "changes nothing more" gives way and the DC moves are
+            # made."
             self.arc_moves(Figure(self, "arc", 0), self.dc)
 
     def arc_moves(self, figure, moves):
+        # "The mask and cursor move on passed-over dots"
         for _ in range(moves):
             self.figure_step(figure)
 
@@ -85,8 +86,7 @@ class Figures:
             bit = self.character_bit(figure)
         else:
             if figure.place == 0:
-                # "The mask and cursor move on passed-over dots, up to 16,383
-                # steps in the unit that meets the next dot"
+                # "... up to 16,383 steps in the unit that meets the next dot"
                 self.arc_moves(figure, figure.passed)
             bit = self.pattern_bit(figure)
         # "... for all masked bits."

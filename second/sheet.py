@@ -261,8 +261,8 @@ def translate_line(picture, x, y, x1, y1):
 
 
 # The moves (right, down) that a line or an arc along DIR makes: its axis move
-# and its diagonal move. "For even DIR the axis is DIR and the diagonal DIR + 1; for
-# odd, the axis is DIR + 1 mod 8 and the diagonal DIR."
+# and its diagonal move. "For even DIR the axis is DIR and the diagonal DIR +
+# 1; for odd, the axis is DIR + 1 mod 8 and the diagonal DIR."
 LINE_MOVES = [
     ((0, 1), (1, 1)),       # DIR 0: down, down-right
     ((1, 0), (1, 1)),       # DIR 1: right, down-right
