@@ -25,6 +25,7 @@ class Figure:
         self.d1, self.dm = chip.d1, chip.dm
         self.row_start = (chip.ead, chip.mask)     # used by characters
         self.factor = (chip.zoom & 15) + 1         # used by characters
+        self.arc_d, self.arc_d2, self.arc_d1 = signed(chip.d), signed(chip.d2), signed(chip.d1)   # used by arcs
 
 
 class Figures:
@@ -50,16 +51,16 @@ class Figures:
         # "for i = 0 to DC, dots with i below DM are passed over without a
         # cycle". DC and DM are unsigned: "up to 16,383 steps".
         dots = self.dc + 1 - self.dm
-        if dots > 0:
+        if dots >= 1:
             self.start_figure("arc", dots, self.dm)
         else:
-            self.start_figure("arc", 0)
-            # "The mask and cursor move on passed-over dots, ... in the unit
-            # ... that takes FIGD if no dot is left to draw; there 01's
-            # "changes nothing more" gives way and the DC moves are made."
+            # "... in the unit ... that takes FIGD if no dot is left to draw;
+            # there 01's "changes nothing more" gives way and the DC moves are
+            # made."
             self.arc_moves(Figure(self, "arc", 0), self.dc)
 
     def arc_moves(self, figure, moves):
+        # "The mask and cursor move on passed-over dots"
         for _ in range(moves):
             self.figure_step(figure)
 
@@ -81,13 +82,12 @@ class Figures:
         # return to a row's start, is made in the earlier dot's unit, and the
         # figure ends in its last dot's unit."
         figure = self.figure
-        if figure.place == 0:
-            # "The mask and cursor move on passed-over dots, up to 16,383
-            # steps in the unit that meets the next dot"
-            self.arc_moves(figure, figure.passed)
         if figure.kind == "character":
             bit = self.character_bit(figure)
         else:
+            if figure.place == 0:
+                # "... up to 16,383 steps in the unit that meets the next dot"
+                self.arc_moves(figure, figure.passed)
             bit = self.pattern_bit(figure)
         # "... for all masked bits."
         self.memory_cycle(0xFFFF if bit else 0x0000)
@@ -156,18 +156,23 @@ def arc_direction(figure):
     # negative the move is diagonal, D gains D2 and D2 loses 2; otherwise it
     # is along the axis. Sums wrap at 14 bits; axis and diagonal are as for
     # lines."
-    figure.d = fourteen_bits(figure.d + figure.d1)
-    figure.d1 = fourteen_bits(figure.d1 - 2)
-    if figure.d < 0x2000:
+    figure.arc_d = wrapped(figure.arc_d + figure.arc_d1)
+    figure.arc_d1 = wrapped(figure.arc_d1 - 2)
+    if figure.arc_d >= 0:
         return axis(figure.direction)
-    figure.d = fourteen_bits(figure.d + figure.d2)
-    figure.d2 = fourteen_bits(figure.d2 - 2)
+    figure.arc_d = wrapped(figure.arc_d + figure.arc_d2)
+    figure.arc_d2 = wrapped(figure.arc_d2 - 2)
     return diagonal(figure.direction)
 
 
-def fourteen_bits(number):
-    # "Sums wrap at 14 bits"; a pattern of 2000 or more is negative.
-    return number % 0x4000
+def signed(pattern):
+    # "D is two's complement", and so are D2 and D1 here.
+    return pattern - 0x4000 if pattern >= 0x2000 else pattern
+
+
+def wrapped(number):
+    # "Sums wrap at 14 bits": -8,192 to 8,191.
+    return (number + 0x2000) % 0x4000 - 0x2000
 
 
 def axis(direction):

@@ -261,8 +261,8 @@ def translate_line(picture, x, y, x1, y1):
 
 
 # The moves (right, down) that a line or an arc along DIR makes: its axis move
-# and its diagonal move. "For even DIR the axis is DIR and the diagonal DIR + 1; for
-# odd, the axis is DIR + 1 mod 8 and the diagonal DIR."
+# and its diagonal move. "For even DIR the axis is DIR and the diagonal DIR +
+# 1; for odd, the axis is DIR + 1 mod 8 and the diagonal DIR."
 LINE_MOVES = [
     ((0, 1), (1, 1)),       # DIR 0: down, down-right
     ((1, 0), (1, 1)),       # DIR 1: right, down-right
@@ -315,7 +315,7 @@ def translate_circle(picture, figure):
     # "after one WDAT its eight arcs go in order of DIR, each sent as a line
     # is"
     entries = []
-    for direction in range(8):
+    for direction in (0, 1, 2, 3, 4, 5, 6, 7):
         x, y = start_of_arc(figure, direction)
         numbers = numbers_of_arc(figure.radius, direction)
         entries += curs(picture, x, y) + pattern_of_ones() + figs(0x20 + direction, numbers) + [command(0x6C)]

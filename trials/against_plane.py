@@ -1,12 +1,15 @@
 """The controller against the geometry, on many random sheets.
 
     python3 against_plane.py --sheets N --seed S
+    python3 against_plane.py --radii --seed S
 
-Each sheet is translated and drawn by the model of the controller from a
-random register set (write mode, empty buffer, nothing being drawn), and the
-memory is held against what plane.py paints. The first difference stops the
-program with the `assert` in bench.py. It tries the second program against
-itself and has no part in comparing it with the proved program.
+Each sheet, with circles among its figures, is translated and drawn by the
+model of the controller from a random register set (write mode, empty buffer,
+nothing being drawn), and the memory is held against what plane.py paints. The
+first difference stops the program with the `assert` in bench.py. It tries the
+second program against itself and has no part in comparing it with the proved
+program. With --radii each sheet is one circle: every radius that a lawful
+picture holds, 1 to 1,023.
 """
 
 import argparse
@@ -20,13 +23,18 @@ sys.path.insert(0, os.path.join(HERE, os.pardir, "second"))
 
 from basics import LENGTHS, LENGTH_WEIGHTS  # noqa: E402
 from bench import Bench              # noqa: E402
-from building import with_check      # noqa: E402
+from building import block_body, number_bytes, record, with_check  # noqa: E402
 from chip import Chip                # noqa: E402
 from generate import Generator       # noqa: E402
 
 
 class Maker(Generator):
-    """The generator's sheets, with larger figures now and then."""
+    """The generator's sheets, with circles, and larger figures now and then."""
+
+    circles = 0.3
+
+    def circle_record(self, most, left):
+        return Generator.circle_record(self, most, left + (6000 if self.chance(0.1) else 0))
 
     def near(self, value, limit):
         if self.chance(0.1):
@@ -65,18 +73,40 @@ def one_sheet(maker, bench):
     assert bench.may_be_held_to_the_geometry()
     answer = bench.answer("X").split(" ")
     assert answer[:4] == ["X", "0", "%X" % needed, "0"], answer
-    return int(answer[4], 16)
+    circles = sum(body[4 + 10 * index] == 5 for body in bodies for index in range(body[2]))
+    return int(answer[4], 16), circles
+
+
+def one_radius(maker, bench, r):
+    # COMPLEMENT of one circle, anywhere in the largest square picture. A dot
+    # changed twice would be missing from it.
+    bench.answer("M 40000")
+    bench.answer("Q 80 800")
+    x, y = r + maker.below(2048 - 2 * r), r + maker.below(2048 - 2 * r)
+    body = block_body(0, 1, 1, [record(5, 1, x, y, number_bytes(r) + [0, 0])])
+    bench.sheet = with_check(body)
+    random_registers(bench.chip, maker.random)
+    assert bench.may_be_held_to_the_geometry()
+    answer = bench.answer("X").split(" ")
+    units = int(answer[4], 16)
+    assert units == 163 + sum(bin(word).count("1") for word in bench.chip.memory if word), answer
+    return units, 1
 
 
 def main():
     parser = argparse.ArgumentParser(description="the controller against the geometry")
     parser.add_argument("--sheets", type=int, default=1000)
     parser.add_argument("--seed", type=int, default=1)
+    parser.add_argument("--radii", action="store_true")
     wanted = parser.parse_args()
     maker, bench = Maker(random.Random(wanted.seed)), Bench()
     start = time.time()
-    units = sum(one_sheet(maker, bench) for _ in range(wanted.sheets))
-    print("%d sheets, %d units, no difference, %.0f s" % (wanted.sheets, units, time.time() - start))
+    if wanted.radii:
+        drawn = [one_radius(maker, bench, r) for r in range(1, 1024)]
+    else:
+        drawn = [one_sheet(maker, bench) for _ in range(wanted.sheets)]
+    print("%d sheets with %d circles, %d units, no difference, %.0f s" % (
+        len(drawn), sum(circles for _, circles in drawn), sum(units for units, _ in drawn), time.time() - start))
 
 
 if __name__ == "__main__":

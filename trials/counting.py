@@ -10,9 +10,11 @@ sys.path.insert(0, os.path.join(HERE, os.pardir, "second"))
 import figures as figures_module     # noqa: E402
 from chip import Chip                # noqa: E402
 from commands import NAMES           # noqa: E402
+from figures import signed, wrapped  # noqa: E402
 from reads import READ_MODE, WRITE_MODE  # noqa: E402
 from rows import (  # noqa: E402
-    DIRECTIONS, MOST_PARAMETERS, OPERATION_NAMES, PLACES, TRANSFERS, class_of_command, reached, wide_marks)
+    DIRECTIONS, MASK_KINDS, MOST_PARAMETERS, MOVES, OPERATION_NAMES, PLACES, TRANSFERS, WHENS, class_of_command, reached,
+    wide_marks)
 
 
 class CountingChip(Chip):
@@ -43,8 +45,14 @@ class CountingChip(Chip):
         if self.figure is not None:
             reached("RESET in a figure")
             reached(self.figure.kind + " cut by RESET")
+            self.count_stop("RESET")
         if self.read is not None:
             reached("RDAT %s ended by RESET" % TRANSFERS[self.read.transfer])
+
+    def count_stop(self, what):
+        # Where an arc stands when it is stopped.
+        if self.figure.kind == "arc":
+            reached("arc: %s %s" % (what, where_in_arc(self.figure)))
 
     def parameter_port(self, byte):
         answer = Chip.parameter_port(self, byte)
@@ -88,6 +96,7 @@ class CountingChip(Chip):
             reached("run: budget spent as the work ends")
         if self.figure is not None:
             reached("run: a figure cut")
+            self.count_stop("a run ends")
             if begun and done > 0 and self.figure.dots > 2 ** 32:
                 reached("run: goes on in more than 2^32 dots, and is cut")
         if budget == 0xFFFFFFFF:
@@ -111,6 +120,7 @@ class CountingChip(Chip):
         name = NAMES[byte]
         if name in ("FIGD", "GCHRD"):
             reached("%s of type %s" % (name, format(self.figs >> 3, "05b")))
+            self.count_no_arc(name, self.figs >> 3)
         if name in ("RDAT", "CURD", "LPRD"):
             reached("%s with %s behind it" % (name, "entries" if self.buffer else "nothing"))
         if name == "LPRD" and self.pen_set:
@@ -118,6 +128,13 @@ class CountingChip(Chip):
         Chip.take_command(self, byte)
         if name == "RDAT" and self.read is None:
             reached("RDAT %s of no items" % TRANSFERS[byte >> 3 & 3])
+
+    def count_no_arc(self, name, figure_type):
+        if self.dm <= self.dc and figure_type & 4:
+            if name == "FIGD" and figure_type != 4:
+                reached("FIGD of A and another bit, with dots")
+            if name == "GCHRD" and figure_type == 4:
+                reached("GCHRD of A alone, with dots")
 
     def take_parameter(self, byte):
         name = "" if self.command is None else NAMES[self.command]
@@ -164,11 +181,27 @@ class CountingChip(Chip):
     def memory_cycle(self, pattern):
         figure = self.figure
         many[count_cycle, figure and figure.kind, figure and figure.direction, self.operation, pattern & 1,
-             MASKS.get(bin(self.mask).count("1"), "of other bits"), self.ead >= len(self.memory)] += 1
+             MASKS.get(bin(self.mask).count("1"), MASK_KINDS[3]), self.ead >= len(self.memory)] += 1
         if figure is not None and self.mask in DOTS:
             place = 0 if figure.place == 0 else 2 if figure.place == figure.dots - 1 else 1
             many[count_dot, place, DOTS[self.mask]] += 1
         Chip.memory_cycle(self, pattern)
+
+    def start_arc(self):
+        dc, dm = self.dc, self.dm
+        facts = {
+            "DM 0": dm == 0, "DM 1": dm == 1, "DM 2 to DC - 1": 2 <= dm < dc, "DM = DC": dm == dc,
+            "DM = DC + 1": dm == dc + 1, "DM over DC + 1": dm > dc + 1, "DC 0": dc == 0,
+            "DM 16,383 and none left": dc < dm == 0x3FFF, "DC 8,192 or more, DM less": dm < 0x2000 <= dc,
+            "DM 8,192 or more, a dot left": 0x2000 <= dm <= dc, "DM = DC = 16,383": dm == dc == 0x3FFF,
+            "the first dot past dot 15": 16 <= dm <= dc,
+        }
+        for what, holds in facts.items():
+            if holds:
+                reached("arc: " + what)
+        if dm > dc:
+            reached("figure of no dots: arc")
+        Chip.start_arc(self)
 
     def start_figure(self, kind, dots, passed=0):
         if dots == 0:
@@ -201,21 +234,38 @@ class CountingChip(Chip):
             self.count_line(figure)
         if figure.kind == "character" and figure.place % (figure.d * figure.factor) == 0:
             reached("character: returns to the row's start")
+        before = figure.arc_d, figure.arc_d2, figure.arc_d1, self.ead
         Chip.figure_step(self, figure)
+        if figure.kind == "arc":
+            self.count_arc(figure, *before)
 
     def count_line(self, figure):
-        def signed(number):
-            return number - 0x4000 if number >= 0x2000 else number
         d = signed(figure.d)
         reached("line: D negative" if d < 0 else "line: D zero or more")
         if not -0x2000 <= d + signed(figure.d1 if d < 0 else figure.d2) < 0x2000:
             reached("line: the sum wraps")
 
+    def count_arc(self, figure, d, d2, d1, ead):
+        # What an arc's move did, from the numbers before it.
+        when = 2 if figure is not self.figure else 0 if figure.place == 0 else 1
+        judged = wrapped(d + d1)
+        negative = judged < 0
+        many[count_arc_move, figure.direction, negative, when, (self.ead - ead) // 0x20000,
+             judged == 0, judged != d + d1, negative and judged + d2 != wrapped(judged + d2),
+             d1 - 2 != wrapped(d1 - 2), negative and d2 - 2 != wrapped(d2 - 2)] += 1
+
+
+
+def where_in_arc(figure):
+    if figure.place > 0:
+        return "between dots"
+    return "before the first dot, with " + ("moves to make" if figure.passed > 0 else "none")
+
 
 # What is counted at every dot is kept by its values first: the rows' names are worked out once for all alike.
 
 many = Counter()
-MASKS = {0: "0000", 1: "one bit", 16: "FFFF"}
+MASKS = {0: MASK_KINDS[0], 1: MASK_KINDS[1], 16: MASK_KINDS[2]}
 DOTS = {1 << dot: dot for dot in range(16)}
 
 
@@ -227,6 +277,19 @@ def count_cycle(times, kind, direction, operation, bit, mask, folded):
         reached("%s along %s" % (kind, DIRECTIONS[direction]), times)
         reached("%s by %s" % (kind, OPERATION_NAMES[operation]), times)
         reached("%s, pattern bit %d" % (kind, bit), times)
+    if kind == "arc":
+        reached("arc with mask " + mask, times)
+
+
+def count_arc_move(times, direction, diagonal, when, jump, zero, d_and_d1, d_and_d2, d1, d2):
+    reached("arc: %s along DIR %d %s" % (MOVES[diagonal], direction, WHENS[when]), times)
+    if jump not in (0, -1):
+        reached("arc: EAD wraps %s %s" % ("below 0" if jump > 0 else "past 262,143", WHENS[when]), times)
+    happened = {"D is 0 when judged": zero, "D wraps with D1": d_and_d1, "D wraps with D2": d_and_d2,
+                "D1 wraps": d1, "D2 wraps": d2}
+    for what, holds in happened.items():
+        if holds:
+            reached("arc: " + what, times)
 
 
 def count_dot(times, place, dot):

@@ -16,9 +16,12 @@ sys.path.insert(0, os.path.join(HERE, os.pardir, "second"))
 from bench import OPERATIONS, Bench  # noqa: E402
 from reads import READ_MODE          # noqa: E402
 from counting import CountingChip, settle  # noqa: E402
-from rows import OPERATION_NAMES, counts, reached, rows  # noqa: E402
-from sheet import (BLOCK_SIZE, GLYPH, LINE, RECTANGLE, Refused, cut_into_blocks,  # noqa: E402
-                   read_sheet, record_of, smallest_fitting_direction)
+from plane import how_far_out        # noqa: E402
+from rows import OPERATION_NAMES, SIDES, counts, reached, rows  # noqa: E402
+from sheet import (BLOCK_SIZE, CIRCLE, GLYPH, LINE, RECTANGLE, Refused, cut_into_blocks, decode,  # noqa: E402
+                   has_a_dot_outside, largest_i, read_sheet, record_of, smallest_fitting_direction)
+
+KIND_NAMES = ["", "dot", "line", "rectangle", "glyph", "circle"]
 
 
 class CountingBench(Bench):
@@ -49,12 +52,14 @@ class CountingBench(Bench):
 
     def count_start_of_x(self):
         try:
-            read_sheet(self.picture, self.glyphs, self.sheet)
+            figures = read_sheet(self.picture, self.glyphs, self.sheet)
         except Refused:
             return
         chip = self.chip
         if self.may_be_held_to_the_geometry():
             reached("X held to the geometry")
+            if any(figure.kind == CIRCLE for figure in figures):
+                reached("X of circles held to the geometry")
             if chip.half_word is not None:
                 reached("X with a half-sent word")
             if bin(chip.mask).count("1") != 1:
@@ -65,6 +70,8 @@ class CountingBench(Bench):
             reached("X in read mode")
         elif chip.figure is not None:
             reached("X with a figure in progress")
+            if chip.figure.kind == "arc":
+                reached("X with an arc " + ("before its first dot" if chip.figure.place == 0 else "between dots"))
         elif chip.buffer:
             reached("X with entries waiting")
             if len(chip.buffer) == 16:
@@ -92,8 +99,12 @@ class CountingBench(Bench):
         elif number == 16:
             self.count_16(record_of(cut_into_blocks(self.sheet)[first], second))
         elif number == 19:
-            kind = record_of(cut_into_blocks(self.sheet)[first], second)[0]
-            reached("19 by a " + ["", "dot", "line", "rectangle", "glyph"][kind])
+            self.count_19(decode(record_of(cut_into_blocks(self.sheet)[first], second)))
+        elif number == 18:
+            self.count_18(decode(record_of(cut_into_blocks(self.sheet)[first], second)))
+        elif number == 20:
+            if first > 65535 and int(line.split(" ")[1], 16) == first - 1:
+                reached("sheet: over 65,535 entries, one too few")
 
     def count_11(self):
         words, lines = self.picture
@@ -118,12 +129,52 @@ class CountingBench(Bench):
             reached("15 by unused records")
 
     def count_16(self, record):
-        if not 1 <= record[0] <= 4:
+        if not 1 <= record[0] <= 5:
             reached("16 by kind")
-        elif record[1] > 3:
+            return
+        if record[1] > 3:
             reached("16 by operation")
         else:
-            reached("16 by a %s's bytes" % ("dot" if record[0] == 1 else "glyph"))
+            reached("16 by a %s's bytes" % KIND_NAMES[record[0]])
+        if record[0] == CIRCLE:
+            self.count_16_of_circle(record, decode(record))
+
+    def count_16_of_circle(self, record, figure):
+        if record[1] > 3:
+            reached("16 by a circle's operation")
+        elif record[8] == 0:
+            reached("16 by a circle's byte 9 alone")
+        elif record[9] == 0:
+            reached("16 by a circle's byte 8 alone")
+        if not 1 <= figure.radius <= 2000:
+            reached("16 by a circle's form, 18 as well")
+        elif has_a_dot_outside(figure, self.picture):
+            reached("16 by a circle's form, 19 as well")
+
+    def count_18(self, figure):
+        if figure.kind == GLYPH:
+            reached("18 by a factor")
+            return
+        r = figure.radius
+        reached("18 by " + ("radius 0" if r == 0 else "radius 2,001" if r == 2001 else "a radius over 2,001"))
+        if has_a_dot_outside(figure, self.picture):
+            reached("18 by a radius, 19 as well")
+
+    def count_19(self, figure):
+        reached("19 by a " + KIND_NAMES[figure.kind])
+        if figure.kind == CIRCLE:
+            r = figure.radius
+            reached("19 by a circle of " + ("radius 2,000" if r == 2000 else "1 to 1,023" if r < 1024 else "1,024 to 1,999"))
+            room = self.room_beside(figure)
+            for side in SIDES:
+                if room[side] == -1 and min(room.values()) == -1 and list(room.values()).count(-1) == 1:
+                    reached("19 by a circle one dot past the %s alone" % side)
+
+    def room_beside(self, circle):
+        # How many dots of the picture lie past each end of a circle.
+        return {"left": circle.x - circle.radius, "top": circle.y - circle.radius,
+                "right": 16 * self.picture.words - 1 - circle.x - circle.radius,
+                "bottom": self.picture.lines - 1 - circle.y - circle.radius}
 
     def count_good_sheet(self, letter, line, entries):
         figures = read_sheet(self.picture, self.glyphs, self.sheet)
@@ -135,7 +186,10 @@ class CountingBench(Bench):
             "800 figures": len(figures) == 800, "P 1": words == 1, "P 255": words == 255, "H 1": lines == 1,
             "H 4096": lines == 4096, "P * H = 262144": words * lines == 262144,
             "exact room": letter == "T" and int(line.split(" ")[1], 16) == entries,
+            "800 circles": len(figures) == 800 and all(figure.kind == CIRCLE for figure in figures),
+            "circles beside other kinds": len({figure.kind == CIRCLE for figure in figures}) == 2,
         }
+        facts["over 65,535 entries in exact room"] = facts["exact room"] and entries > 65535
         for what, holds in facts.items():
             if holds:
                 reached("sheet: " + what)
@@ -156,12 +210,30 @@ class CountingBench(Bench):
             reached("translated: " + {(True, True): "rectangle", (True, False): "flat rectangle",
                                       (False, True): "standing rectangle",
                                       (False, False): "rectangle of one dot"}[across, down])
+        elif figure.kind == CIRCLE:
+            self.count_sheet_circle(figure)
         else:
             reached("translated: dot")
         if max(figure.x, figure.x1) == 16 * self.picture.words - 1:
             reached("sheet: a dot in the last column")
         if max(figure.y, figure.y1) == self.picture.lines - 1:
             reached("sheet: a dot in the last line")
+
+    def count_sheet_circle(self, figure):
+        r = figure.radius
+        reached("translated: circle")
+        reached("circle by " + OPERATION_NAMES[figure.operation])
+        gap = how_far_out(r, largest_i(r)) - largest_i(r)
+        reached("circle: " + ["last dots coincide", "last dots side by side", "open"][gap])
+        if r == 1:
+            reached("circle: radius 1")
+        if r > 255:
+            reached("circle: radius over 255")
+        if r == 1023:
+            reached("circle: radius 1,023")
+        for side, room in self.room_beside(figure).items():
+            if room == 0:
+                reached("circle at the %s edge" % side)
 
     def count_sheet_line(self, figure):
         right, down = figure.x1 - figure.x, figure.y1 - figure.y

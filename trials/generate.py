@@ -27,8 +27,7 @@ import random
 import sys
 
 from casebook import expand_cases
-from episodes import Episodes
-from sheets import Sheets
+from curves import Curves
 
 # The weight table: how many of each kind are taken while others take theirs.
 WEIGHTS = {
@@ -45,10 +44,13 @@ WEIGHTS = {
     "damaged_sheet": 14,    # a sheet with one or more faults
     "odd_sizes": 7,         # pictures, glyph tables, sheets of odd sizes
     "malformed": 5,         # lines that are not of the language
+    "arc": 12,              # an arc with its registers, cut by small runs
+    "circle_sheet": 4,      # a lawful sheet with circles, drawn
+    "damaged_circles": 6,   # a sheet with circles and faults in them
 }
 
 
-class Generator(Episodes, Sheets):
+class Generator(Curves):
     """Random episodes of every kind."""
 
     def random_operations(self, seed, wanted):

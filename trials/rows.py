@@ -16,11 +16,18 @@ from commands import NAMES           # noqa: E402
 DIRECTIONS = ["down", "down-right", "right", "up-right", "up", "up-left", "left", "down-left"]
 OPERATION_NAMES = ["REPLACE", "COMPLEMENT", "RESET", "SET"]
 TRANSFERS = {0: "word", 2: "low byte", 3: "high byte"}
-KINDS = ["dots", "line", "rectangle", "character"]
+KINDS = ["dots", "line", "rectangle", "character", "arc"]
 MOST_PARAMETERS = {"RESET": 8, "CCHAR": 3, "ZOOM": 1, "CURS": 3, "PITCH": 1, "MASK": 2, "FIGS": 11}
 PLACES = ["first", "inner", "last"]
 SHEET_KINDS = ["dot", "line", "line of one dot", "diagonal line", "rectangle", "flat rectangle",
-               "standing rectangle", "rectangle of one dot", "glyph"]
+               "standing rectangle", "rectangle of one dot", "glyph", "circle"]
+MASK_KINDS = ["0000", "one bit", "FFFF", "of other bits"]
+
+# When an arc's move is made: before the first dot that it draws, between two
+# dots that it draws, or, where it draws none, by FIGD.
+WHENS = ["on passed-over dots", "between dots", "in FIGD's unit"]
+MOVES = ["axis", "diagonal"]
+SIDES = ["left", "right", "top", "bottom"]
 
 # Dots of a character by which a program with narrower numbers is told.
 PAST_WIDTH = "on past its row's dots modulo 65,536"
@@ -109,13 +116,29 @@ def rows_of_figures():
     table += ["%s, pattern bit %d" % (kind, bit) for kind in KINDS for bit in (0, 1)]
     table += ["%s %s" % (kind, end) for kind in KINDS for end in ("ends in its last dot", "cut by RESET")]
     table += ["a figure's %s dot at dot %d of a word" % (place, dot) for place in PLACES for dot in range(16)]
-    table += ["figure of no dots: rectangle", "figure of no dots: character"]
+    table += ["figure of no dots: " + kind for kind in ("rectangle", "character", "arc")]
     table += ["line: D negative", "line: D zero or more", "line: the sum wraps"]
     table += ["rectangle: D = 0 only", "rectangle: D2 = 0 only", "rectangle: both sides"]
     table += ["character: factor %d" % factor for factor in range(1, 17)]
     table += ["character: " + what for what in ("returns to the row's start", "more than 8 rows",
                                                 "more than 8 dots", "more than 2^32 units", PAST_WIDTH,
                                                 PAST_ROWS, PAST_DOTS, PAST_COLUMN, PAST_ROW, PAST_RETURN)]
+    return table + rows_of_arcs()
+
+
+def rows_of_arcs():
+    table = ["arc: " + what for what in (
+        "DM 0", "DM 1", "DM 2 to DC - 1", "DM = DC", "DM = DC + 1", "DM over DC + 1", "DM 16,383 and none left",
+        "DC 0", "DC 8,192 or more, DM less", "DM 8,192 or more, a dot left", "DM = DC = 16,383",
+        "the first dot past dot 15")]
+    table += ["arc: %s along DIR %d %s" % (move, direction, when)
+              for move in MOVES for direction in range(8) for when in WHENS]
+    table += ["arc: EAD wraps %s %s" % (where, when) for where in ("past 262,143", "below 0") for when in WHENS]
+    table += ["arc: " + what for what in ("D is 0 when judged", "D wraps with D1", "D wraps with D2", "D1 wraps", "D2 wraps")]
+    table += ["arc: %s %s" % (what, where) for what in ("RESET", "a run ends")
+              for where in ("before the first dot, with moves to make", "before the first dot, with none", "between dots")]
+    table += ["arc with mask " + mask for mask in MASK_KINDS]
+    table += ["FIGD of A and another bit, with dots", "GCHRD of A alone, with dots"]
     return table
 
 
@@ -126,7 +149,7 @@ def rows_of_steps():
         if direction not in ("up", "down"):
             table += ["step %s, carry" % direction]
     table += ["step wraps past 262,143", "step wraps below 0"]
-    table += ["cycle with mask " + what for what in ("0000", "one bit", "FFFF", "of other bits")]
+    table += ["cycle with mask " + mask for mask in MASK_KINDS]
     table += ["cycle by " + operation for operation in OPERATION_NAMES]
     table += ["cycle folded", "cycle not folded", "step with pitch 0"]
     return table
@@ -164,8 +187,9 @@ def rows_of_sheets():
     table += ["%d in a later record" % number for number in range(16, 20)]
     table += ["11 by P", "11 by H", "11 by P * H", "12 by eights", "12 by size", "13 empty", "13 no blocks", "13 over 16"]
     table += ["15 by " + what for what in ("number", "count", "last", "unused records", "spare bytes")]
-    table += ["16 by " + what for what in ("kind", "operation", "a dot's bytes", "a glyph's bytes")]
-    table += ["19 by a " + what for what in ("dot", "line", "rectangle", "glyph")]
+    table += ["16 by " + what for what in ("kind", "operation", "a dot's bytes", "a glyph's bytes", "a circle's bytes")]
+    table += ["19 by a " + what for what in ("dot", "line", "rectangle", "glyph", "circle")]
+    table += rows_of_circles()
     table += ["translated: " + kind for kind in SHEET_KINDS]
     table += ["translated by " + operation for operation in OPERATION_NAMES]
     table += ["line DIR %d" % direction for direction in range(8)]
@@ -177,6 +201,24 @@ def rows_of_sheets():
     table += ["X held to the geometry", "X of a picture that does not fit", "X in read mode",
               "X with a figure in progress", "X with entries waiting", "X with a full buffer",
               "X with a half-sent word", "X with a mask not one-hot"]
+    table += ["X with an arc " + what for what in ("before its first dot", "between dots")]
+    return table
+
+
+def rows_of_circles():
+    table = ["16 by a circle's " + what for what in (
+        "byte 8 alone", "byte 9 alone", "operation", "form, 18 as well", "form, 19 as well")]
+    table += ["18 by " + what for what in (
+        "a factor", "radius 0", "radius 2,001", "a radius over 2,001", "a radius, 19 as well")]
+    table += ["19 by a circle " + what for what in ("of radius 2,000", "of 1,024 to 1,999", "of 1 to 1,023")]
+    table += ["19 by a circle one dot past the %s alone" % side for side in SIDES]
+    table += ["circle at the %s edge" % side for side in SIDES]
+    table += ["circle by " + operation for operation in OPERATION_NAMES]
+    table += ["circle: " + what for what in (
+        "radius 1", "last dots coincide", "last dots side by side", "open", "radius over 255", "radius 1,023")]
+    table += ["sheet: " + what for what in ("800 circles", "circles beside other kinds", "over 65,535 entries in exact room",
+                                            "over 65,535 entries, one too few")]
+    table += ["X of circles held to the geometry"]
     return table
 
 
