@@ -22,7 +22,8 @@ use Rattle.registers.specs.declared.Running.{Running}
 use Rattle.registers.specs.declared.Drawing.{Drawing}
 use Rattle.registers.specs.declared.Buffer.{Buffer}
 use Rattle.registers.specs.declared.Registers.{Registers}
-use Rattle.registers.specs.Size.{plainKind, lineKind, characterKind, arcKind, rectangleKind, dotsOf, arcCyclesOf, factorOf, rowsOf, columnsOf}
+use Rattle.registers.specs.Size.{plainKind, lineKind, characterKind, arcKind, rectangleKind, dotsOf, arcCyclesOf, factorOf, rowsOf}
+use Rattle.registers.specs.Size.{columnsOf}
 use Rattle.registers.specs.Buffer.{oldest, popped}
 use Rattle.registers.specs.Put.{putBuffer, putProgress}
 use Rattle.registers.specs.State.{State, state}

@@ -12,7 +12,7 @@ use Rattle.registers.specs.Put.{putCursor}
 use Rattle.registers.specs.State.{State}
 use Rattle.figures.specs.Figure.{patternAt}
 use Rattle.arcs.specs.declared.Moving.{Moving}
-use Rattle.arcs.specs.Arc.{movedOn, passed}
+use Rattle.arcs.specs.Arc.{movedOn}
 use Rattle.arcs.specs.Unit.{moving, meets, arcMoved, arcUnit}
 use Rattle.laws.proofs.BranchLaws.{either, cases}
 use Rattle.laws.proofs.KeptLaws.{Going, SoundSet, Whole, cursor-kept, work-kept, cycle-kept}

@@ -2,7 +2,7 @@
 -- an arc in progress only where it has a dot to draw, keeps the registers lawful.
 use mathlib.Core.Path.{_≡_}
 use mathlib.Core.Bool.{Bool, true, false}
-use Prim.Native.Nat.{ℕ, zero, suc, _<_}
+use Prim.Native.Nat.{ℕ, zero, suc}
 use native.Mathlib.Omega.{arith}
 use lib.Dec.{ltb}
 use borrow.Author.Tests.{ltb-true}
@@ -17,7 +17,7 @@ use Rattle.arcs.specs.declared.Moving.{Moving}
 use Rattle.arcs.specs.Arc.{turnsB, runningBy, runningOn, arcDirection, movedOn, passed}
 use Rattle.arcs.specs.Unit.{copied, moving, arcBegun}
 use Rattle.laws.proofs.BranchLaws.{cases}
-use Rattle.laws.proofs.SoundLaws.{DrawingFits, RunningFits}
+use Rattle.laws.proofs.SoundLaws.{RunningFits}
 use Rattle.laws.proofs.KeptLaws.{SoundSet, cursor-kept, work-kept}
 
 pub record MovingFits (m : Moving) : Type 0 where

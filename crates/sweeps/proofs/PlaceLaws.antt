@@ -14,7 +14,7 @@ use Rattle.dots.specs.Dot.{cursorAt}
 use Rattle.registers.specs.declared.Running.{Running}
 use Rattle.figures.specs.Figure.{patternOf, patternAt, axisOf, diagonalOf}
 use Rattle.arcs.specs.declared.Moving.{Moving}
-use Rattle.arcs.specs.Arc.{turnsB, runningOn, arcDirection, movedOn, passed}
+use Rattle.arcs.specs.Arc.{turnsB, runningOn, arcDirection, passed}
 use Rattle.walks.specs.declared.Brush.{Brush}
 use Rattle.walks.specs.Address.{strideOf, Stride, Address}
 use Rattle.walks.proofs.BitLaws.{stride-steps}
@@ -82,7 +82,8 @@ module _ (b : Brush) (narrow : b .pitch < 256) where
   places-walk zero i p m h = λ j. swept (standing p) m
   places-walk (suc n) i p m h =
       places-walk n (i + 1) (placeOn axisIn diagonalIn p) _ (omega arith)
-      ∙ ap (λ (v : Moving). arcWalk b n (i + 1) v (cycled (b .op) (patternOf (getD (b .ram) 8 0) (getD (b .ram) 9 0) i) (cursorAt (p .at)) m))
+      ∙ ap (λ (v : Moving). arcWalk b n (i + 1) v (cycled (b .op) (patternOf (getD (b .ram) 8 0) (getD (b .ram) 9 0) i)
+      (cursorAt (p .at)) m))
       (place-moves p h)
 
 -- ---- over what the calls of the code ensure

@@ -7,18 +7,17 @@ use Prim.Native.Nat.{ℕ, zero, suc, _+_, _-_, _%_, _≤_, _<_}
 use native.Mathlib.Decide.{decLt}
 use native.Mathlib.Omega.{arith}
 use lib.Dec.{eqb, eqb·suc-zero}
-use borrow.Author.Tests.{lt-ltb, le-ltb, eq-eqb, ne-eqb}
+use borrow.Author.Tests.{lt-ltb, le-ltb}
 use Rattle.registers.specs.declared.Work.the-variants.{Idle, Arc}
 use Rattle.registers.specs.declared.Drawing.{Drawing}
 use Rattle.registers.specs.Size.{arcKind, arcCyclesOf}
 use Rattle.figures.specs.Figure.{patternOf, patternAt}
 use Rattle.arcs.specs.declared.Moving.{Moving}
-use Rattle.arcs.specs.Unit.{meets}
 use Rattle.walks.specs.declared.Brush.{Brush}
 use Rattle.walks.specs.Walk.{least, dotted}
 use Rattle.walks.proofs.LeastLaws.{is-least}
 use Rattle.bursts.specs.Burst.{Drawn, later}
-use Rattle.bursts.proofs.BurstLaws.{later-later, later-none}
+use Rattle.bursts.proofs.BurstLaws.{later-later}
 use Rattle.bursts.proofs.CountLaws.{Counted, counted-none, counted-one, counted-more, count-of}
 use Rattle.sweeps.specs.Sweep.{metBy, bent, onBy, arcBurst, Swept, swept, arcWalk}
 
@@ -123,7 +122,12 @@ module _ (b : Brush) where
 
   abbrev endsAt : ℕ → ℕ → Swept → Drawn
   endsAt n k w =
-      record { count = n + 1; cursor = w .moving .cursor; work = Idle; mem = dotted b (b .drawing .dm + (k + n)) (w .moving .cursor) (w .mem) }
+      record {
+        count = n + 1;
+        cursor = w .moving .cursor;
+        work = Idle;
+        mem = dotted b (b .drawing .dm + (k + n)) (w .moving .cursor) (w .mem);
+      }
 
   arc-ends : (x n k : ℕ) (m : Moving) (l : List ℕ) → n ≡ arcCyclesOf (b .drawing) - 1 - k
       → endsAt n k (reached n k m l) ≡ arcBurst b (n + suc x) k m l

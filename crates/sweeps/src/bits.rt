@@ -60,7 +60,8 @@ fn arc_loop(
     end: u32,
 ) -> Place
     requires { ⌜ (from .at < 4194304) × ((axis < 8388608) × (diagonal < 8388608)) ⌝ }
-    ensures { λ q. ⌜ placed q (now (mem .exit)) ≡ placeWalk (operationOf kind) low high axis diagonal (end - i) i from (now (mem .entry)) ⌝ }
+    ensures { λ q.
+        ⌜ placed q (now (mem .exit)) ≡ placeWalk (operationOf kind) low high axis diagonal (end - i) i from (now (mem .entry)) ⌝ }
 {
     let masks = dots::MASKS;
     let mut p = from;
@@ -135,15 +136,7 @@ pub(crate) fn pass_bits(b: Brush, a: Running, at: u32, n: u16) -> Moving
     let dir = b.drawing.dir;
     let axis = stride(figures::figure::axis_of(dir), b.pitch);
     let diagonal = stride(figures::figure::diagonal_of(dir), b.pitch);
-    let p = pass_loop(
-        axis,
-        diagonal,
-        Place {
-            at: at,
-            running: a,
-        },
-        n,
-    );
+    let p = pass_loop(axis, diagonal, Place { at: at, running: a }, n);
     let next = p.running;
     let c = dots::cursor_at(p.at);
     Moving {
@@ -170,10 +163,7 @@ pub(crate) fn arc_bits(mem: &mut [u16], b: Brush, a: Running, at: u32, i: u32, e
         axis,
         diagonal,
         i,
-        Place {
-            at: at,
-            running: a,
-        },
+        Place { at: at, running: a },
         end,
     );
     let next = p.running;

@@ -13,7 +13,8 @@ arc-cycles-of-requires c κs = search needs
 returns : tie.Need-returns
 returns c =
     arc-begins _ (c .before .before .before .before .before .before .before .before .arc-cycles-of .ensures)
-    (c .before .before .before .before .before .before .before .before .before .copy .ensures) (c .before .before .before .before .before .before .before .if1 .taken)
+    (c .before .before .before .before .before .before .before .before .before .copy .ensures)
+    (c .before .before .before .before .before .before .before .if1 .taken)
 
 pass-requires : tie.Need-pass-requires
 pass-requires c κs = search needs

@@ -45,7 +45,9 @@ dot-requires : tie.Need-dot-requires
 dot-requires c κs = search needs
 
 add-t25 : tie.Need-add-t25
-add-t25 c = omega (arith, c .before .before .before .before .if2 .taken, c .before .before .before .before .before .before .before .before .before .before .before .before .before .before .before .before .before .fits)
+add-t25 c =
+    let n = c .before .before .before .before .before .before .before .before .before .before .before in
+    omega (arith, c .before .before .before .before .if2 .taken, n .before .before .before .before .before .before .fits)
 
 same-length : tie.Need-same-length
 same-length c = search needs
@@ -53,19 +55,21 @@ same-length c = search needs
 returns-2 : tie.Need-returns-2
 returns-2 c =
     let n = c .before .before .before .before .before .before .before .before .before .before .before in
-    arc-ended _ _ _ _ _ (n .before .before .before .before .if1 .left) (rw (← n .before .before .arc-cycles-of .ensures) (n .before .before-last .ensures))
+    arc-ended _ _ _ _ _ (n .before .before .before .before .if1 .left)
+    (rw (← n .before .before .arc-cycles-of .ensures) (n .before .before-last .ensures))
     (n .least-of .ensures) (n .before .before .before .meet .ensures) refl
     (c .before .before .before .before .before .before .before .before .arc-dots .ensures)
     (c .before .before .before .before .if2 .taken) (c .before .before .dot .ensures)
 
 add-t19 : tie.Need-add-t19
 add-t19 c =
+    let n = c .before .before .before .before .before .before .before .before in
     omega (
       arith,
-      is-least _ (c .before .before .before .before .before .before .before .before .before .before-last .result) (c .before .before .before .before .before .before .before .before .least-of .ensures) .right,
-      c .before .before .before .before .before .before .before .before .before .before-last .ensures,
-      c .before .before .before .before .before .before .before .before .before .before .arc-cycles-of .ensures,
-      few-cycles (c .before .before .before .before .before .before .before .before .before .before .before .before .before .before .args .b .drawing) (search needs),
+      is-least _ (n .before .before-last .result) (n .least-of .ensures) .right,
+      n .before .before-last .ensures,
+      n .before .before .arc-cycles-of .ensures,
+      few-cycles (n .before .before .before .before .before .before .args .b .drawing) (search needs),
     )
 
 same-length-2 : tie.Need-same-length-2
@@ -74,7 +78,8 @@ same-length-2 c = search needs
 returns-3 : tie.Need-returns-3
 returns-3 c =
     let n = c .before .before .before .before .before .before .before .before in
-    arc-stopped _ _ _ _ _ (n .before .before .before .before .if1 .left) (rw (← n .before .before .arc-cycles-of .ensures) (n .before .before-last .ensures))
+    arc-stopped _ _ _ _ _ (n .before .before .before .before .if1 .left)
+    (rw (← n .before .before .arc-cycles-of .ensures) (n .before .before-last .ensures))
     (n .least-of .ensures) (n .before .before .before .meet .ensures) refl
     (c .before .before .before .before .before .arc-dots .ensures)
     (c .before .if2 .left)

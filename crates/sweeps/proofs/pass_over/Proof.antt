@@ -18,7 +18,8 @@ pass-bits-requires c κs = search needs
 
 returns-2 : tie.Need-returns-2
 returns-2 c =
-    pass-by-bits (c .before .before .before .before .args .b) (c .before .before .before .before .args .m) (c .before .before .before .address-of .ensures) (c .before .before .if1 .left) _ (c .pass-bits .ensures)
+    pass-by-bits (c .before .before .before .before .args .b) (c .before .before .before .before .args .m)
+    (c .before .before .before .address-of .ensures) (c .before .before .if1 .left) _ (c .pass-bits .ensures)
 
 pub pass-over-spec : {M : Type 1} → statement M
 pass-over-spec =

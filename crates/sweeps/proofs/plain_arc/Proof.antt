@@ -41,7 +41,8 @@ loop-again : tie.Need-loop-again Inv-loop μ-loop
 loop-again c = let l = c .before .before .before .before .before .before .before .loop in
     record {
       long = c .before .before .before .dot .kept .0 ∙ l .inv .long;
-      same = l .inv .same ∙ sweep-on _ _ _ _ _ (c .before .before .before .before .before .before .loop-test .taken) (c .before .before .before .dot .ensures)
+      same = l .inv .same ∙ sweep-on _ _ _ _ _ (c .before .before .before .before .before .before .loop-test .taken)
+          (c .before .before .before .dot .ensures)
           (c .move-on .ensures);
     }
 

@@ -24,8 +24,10 @@ array-read-arc-any-2 : tie.Need-array-read-arc-any-2
 array-read-arc-any-2 c = search needs
 
 arc-any-requires : tie.Need-arc-any-requires
-arc-any-requires c κs =
-    (c .before .before .before .before .before .before .before .pre, (stride-small (c .before .before .before .before .stride .ensures), stride-small (c .before .before .stride2 .ensures)))
+arc-any-requires c κs = (
+  c .before .before .before .before .before .before .before .pre,
+  (stride-small (c .before .before .before .before .stride .ensures), stride-small (c .before .before .stride2 .ensures)),
+)
 
 cursor-at-requires : tie.Need-cursor-at-requires
 cursor-at-requires c κs = search needs
@@ -37,8 +39,10 @@ returns : tie.Need-returns
 returns c =
     bits-walk _ _ _ (c .before .before .before .before .before .before .before .before .before .before .before .before .pre)
     (c .before .before .before .before .before .before .before .before .before .before .axis-of .ensures)
-    (c .before .before .before .before .before .before .before .before .before .stride .ensures) (c .before .before .before .before .before .before .before .before .diagonal-of .ensures)
-    (c .before .before .before .before .before .before .before .stride2 .ensures) _ _ _ _ (c .before .before .before .before .arc-any .ensures) (c .cursor-at .ensures)
+    (c .before .before .before .before .before .before .before .before .before .stride .ensures)
+    (c .before .before .before .before .before .before .before .before .diagonal-of .ensures)
+    (c .before .before .before .before .before .before .before .stride2 .ensures) _ _ _ _
+    (c .before .before .before .before .arc-any .ensures) (c .cursor-at .ensures)
 
 pub arc-bits-spec : {M : Type 1} → statement M
 arc-bits-spec =

@@ -47,7 +47,10 @@ cycle-requires : tie.Need-cycle-requires Inv-loop μ-loop
 cycle-requires c κs = search needs
 
 place-on-requires : tie.Need-place-on-requires Inv-loop μ-loop
-place-on-requires c κs = (c .before .before .before .before .before .before .before .loop .inv .small, c .before .before .before .before .before .before .before .before .before .pre .1)
+place-on-requires c κs = (
+  c .before .before .before .before .before .before .before .loop .inv .small,
+  c .before .before .before .before .before .before .before .before .before .pre .1,
+)
 
 add-k : tie.Need-add-k Inv-loop μ-loop
 add-k c = search needs

@@ -18,14 +18,17 @@ stride-requires-2 : tie.Need-stride-requires-2
 stride-requires-2 c κs = search needs
 
 pass-loop-requires : tie.Need-pass-loop-requires
-pass-loop-requires c κs = (c .before .before .before .before .pre, (stride-small (c .before .before .stride .ensures), stride-small (c .stride2 .ensures)))
+pass-loop-requires c κs =
+    (c .before .before .before .before .pre, (stride-small (c .before .before .stride .ensures), stride-small (c .stride2 .ensures)))
 
 cursor-at-requires : tie.Need-cursor-at-requires
 cursor-at-requires c κs = search needs
 
 returns : tie.Need-returns
 returns c =
-    bits-pass (c .before .before .before .before .before .before .before .args .b) _ _ (c .before .before .before .before .before .before .before .pre) (c .before .before .before .before .before .before .axis-of .ensures)
+    bits-pass (c .before .before .before .before .before .before .before .args .b) _ _
+    (c .before .before .before .before .before .before .before .pre)
+    (c .before .before .before .before .before .before .axis-of .ensures)
     (c .before .before .before .before .before .stride .ensures) (c .before .before .before .before .diagonal-of .ensures)
     (c .before .before .before .stride2 .ensures) _ (c .before .before .pass-loop .ensures) (c .cursor-at .ensures)
 

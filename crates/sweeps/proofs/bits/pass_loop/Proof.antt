@@ -5,7 +5,6 @@ use native.Mathlib.Numerals.{add-one}
 use native.Mathlib.Omega.{arith}
 use Rattle.sweeps.specs.Place.{placeOn, placePassed}
 use Rattle.sweeps.proofs.PlaceLaws.{passed-lt}
-use borrow.Author.Needs.{needs}
 use Rattle.sweeps.proofs.bits.pass_loop.Statement.{statement}
 use Rattle.sweeps.proofs.bits.pass_loop.Tie as tie
 
@@ -20,11 +19,10 @@ unfolding placePassed
 loop-holds c = (omega arith, refl)
 
 place-on-requires : tie.Need-place-on-requires Inv-loop μ-loop
-place-on-requires c κs =
-    (
-      rw (c .before .loop .inv .1) (passed-lt _ _ (c .before .before .args .from) (c .before .loop .k) (c .before .before .pre .0)),
-      c .before .before .pre .1,
-    )
+place-on-requires c κs = (
+  rw (c .before .loop .inv .1) (passed-lt _ _ (c .before .before .args .from) (c .before .loop .k) (c .before .before .pre .0)),
+  c .before .before .pre .1,
+)
 
 add-k : tie.Need-add-k Inv-loop μ-loop
 add-k c = omega arith
