@@ -95,6 +95,7 @@ pub fn arc(mem: &mut [u16], b: Brush, c: Cursor, k: u32, a: Running, most: u32) 
     let left = bursts::before_last(k, registers::arc_cycles_of(b.drawing));
     let n = least_of(most, left);
     let first = b.drawing.dm as u32 + k % 16;
+    let cycle = k + n;
     let end = first + n;
     let q = arc_dots(mem, b, from, first, end);
     let at = q.cursor;
@@ -111,7 +112,7 @@ pub fn arc(mem: &mut [u16], b: Brush, c: Cursor, k: u32, a: Running, most: u32) 
         count: n,
         cursor: at,
         work: Work::Arc {
-            cycle: k + n,
+            cycle: cycle,
             running: next,
         },
     }

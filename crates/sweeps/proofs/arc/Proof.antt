@@ -28,6 +28,16 @@ cast-first c = search needs
 add-first : tie.Need-add-first
 add-first c = search needs
 
+add-cycle : tie.Need-add-cycle
+add-cycle c =
+    omega (
+      arith,
+      is-least _ (c .before .before .before-last .result) (c .before .least-of .ensures) .right,
+      c .before .before .before-last .ensures,
+      c .before .before .before .arc-cycles-of .ensures,
+      few-cycles (c .before .before .before .before .before .before .before .args .b .drawing) (search needs),
+    )
+
 add-end : tie.Need-add-end
 add-end c =
     omega (
@@ -44,8 +54,8 @@ arc-dots-requires c κs = search needs
 dot-requires : tie.Need-dot-requires
 dot-requires c κs = search needs
 
-add-t25 : tie.Need-add-t25
-add-t25 c =
+add-t26 : tie.Need-add-t26
+add-t26 c =
     let n = c .before .before .before .before .before .before .before .before .before .before .before in
     omega (arith, c .before .before .before .before .if2 .taken, n .before .before .before .before .before .before .fits)
 
@@ -60,17 +70,6 @@ returns-2 c =
     (n .least-of .ensures) (n .before .before .before .meet .ensures) refl
     (c .before .before .before .before .before .before .before .before .arc-dots .ensures)
     (c .before .before .before .before .if2 .taken) (c .before .before .dot .ensures)
-
-add-t19 : tie.Need-add-t19
-add-t19 c =
-    let n = c .before .before .before .before .before .before .before .before in
-    omega (
-      arith,
-      is-least _ (n .before .before-last .result) (n .least-of .ensures) .right,
-      n .before .before-last .ensures,
-      n .before .before .arc-cycles-of .ensures,
-      few-cycles (n .before .before .before .before .before .before .args .b .drawing) (search needs),
-    )
 
 same-length-2 : tie.Need-same-length-2
 same-length-2 c = search needs
@@ -95,12 +94,12 @@ arc-spec =
     least-of-requires
     cast-first
     add-first
+    add-cycle
     add-end
     arc-dots-requires
     dot-requires
-    add-t25
+    add-t26
     same-length
     returns-2
-    add-t19
     same-length-2
     returns-3)
