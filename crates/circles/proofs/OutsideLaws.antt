@@ -13,8 +13,8 @@ use Rattle.circles.specs.Circle.{endX, endY}
 use Rattle.circles.proofs.SizeLaws.{Reach, circle-reach, circle-end}
 
 module _ (cx cy r : ℕ) (pos : 0 < r) (p h : ℕ) where
-  within : r ≤ cx → r ≤ cy → cx + r < 16 * p → cy + r < h → (k x y : ℕ) → circleOn (cx + k) (cy + k) r x y ≡ true → InMoved k p h x y
-  within left top right bottom k x y on =
+  all-in : r ≤ cx → r ≤ cy → cx + r < 16 * p → cy + r < h → (k x y : ℕ) → circleOn (cx + k) (cy + k) r x y ≡ true → InMoved k p h x y
+  all-in left top right bottom k x y on =
       let n : Reach (cx + k) (cy + k) r x y = circle-reach (cx + k) (cy + k) r x y on in
       record {
         west = omega (arith, n .west);
@@ -39,7 +39,7 @@ module _ (cx cy r : ℕ) (pos : 0 < r) (p h : ℕ) where
         let a = and-both (leb r cx && leb r cy && ltb (cx + r) (16 * p)) (ltb (cy + r) h) e in
         let b = and-both (leb r cx && leb r cy) (ltb (cx + r) (16 * p)) (a .0) in
         let c = and-both (leb r cx) (leb r cy) (b .0) in
-        within (leb-true _ _ (c .0)) (leb-true _ _ (c .1)) (ltb-true _ _ (b .1)) (ltb-true _ _ (a .1));
+        all-in (leb-true _ _ (c .0)) (leb-true _ _ (c .1)) (ltb-true _ _ (b .1)) (ltb-true _ _ (a .1));
     outside = go (leb r cx) (leb r cy) (ltb (cx + r) (16 * p)) (ltb (cy + r) h) refl refl refl refl;
   }
     where

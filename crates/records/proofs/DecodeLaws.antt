@@ -26,9 +26,9 @@ module _ (r : Raw) (glyphs : ℕ) where
   unfolding decodedOf
   misfactored f k g = rw (f, k, g)
 
-  pub missized : recordFormB r ≡ true → knownB r glyphs ≡ true → factorB r ≡ true → radiusB r ≡ false → Refused Radius ≡ decodedOf r glyphs
+  pub out-of-range : recordFormB r ≡ true → knownB r glyphs ≡ true → factorB r ≡ true → radiusB r ≡ false → Refused Radius ≡ decodedOf r glyphs
   unfolding decodedOf
-  missized f k g s = rw (f, k, g, s)
+  out-of-range f k g s = rw (f, k, g, s)
 
   pub stands-for : recordFormB r ≡ true → knownB r glyphs ≡ true → factorB r ≡ true → radiusB r ≡ true
       → Good (record { op = operationOf (r .op); figure = figureOf r }) ≡ decodedOf r glyphs

@@ -141,7 +141,7 @@ fn factored(r: Raw) -> bool
     (r.kind != GLYPH) | ((1 <= r.factor) & (r.factor <= 16))
 }
 
-fn sized(r: Raw) -> bool
+fn radius_right(r: Raw) -> bool
     ensures { λ q. ⌜ q ≡ radiusB r ⌝ }
 {
     (r.kind != CIRCLE) | ((1 <= r.x1) & (r.x1 <= 2000))
@@ -186,7 +186,7 @@ fn decode(r: Raw, glyphs: u16) -> Decoded
     if !factored(r) {
         return Decoded::Refused(Refusal::Factor);
     }
-    if !sized(r) {
+    if !radius_right(r) {
         return Decoded::Refused(Refusal::Radius);
     }
     Decoded::Good(Record {

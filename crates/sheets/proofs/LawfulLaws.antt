@@ -102,12 +102,12 @@ module _ (p h glyphs : ℕ) where
   by-test false f g u v j k = k refl
 
   -- a factor and a radius of 1 or more, as 18 asks
-  record Sized (r : Raw) : Type 0 where
+  record Eighteen (r : Raw) : Type 0 where
     factor : r .kind ≡ glyphKind → 0 < r .factor
     radius : (r .kind ≡ dotKind → ⊥) → (r .kind ≡ lineKind → ⊥) → (r .kind ≡ rectangleKind → ⊥) → (r .kind ≡ glyphKind → ⊥) → 0 < r .x1
 
   -- each kind of shape is judged by its own test
-  record-judged : (r : Raw) → Sized r → Judges p h (insideB m (figureOf r)) (recordOn r)
+  record-judged : (r : Raw) → Eighteen r → Judges p h (insideB m (figureOf r)) (recordOn r)
   unfolding figureOf
   record-judged r some =
       by-test (eqb (r .kind) 1) _ _ _ _ (λ e. dot-judged p h (r .x) (r .y))
@@ -117,9 +117,9 @@ module _ (p h glyphs : ℕ) where
       (λ d. circle-judged (r .x) (r .y) (r .x1)
       (some .radius (eqb-false _ 1 a) (eqb-false _ 2 b) (eqb-false _ 3 c) (eqb-false _ 4 d)) p h))))
 
-  sized : (r : Raw) → Formed r → (r .kind ≡ glyphKind → (1 ≤ r .factor) × (r .factor ≤ 16))
-      → (r .kind ≡ circleKind → (1 ≤ r .x1) × (r .x1 ≤ 2000)) → Sized r
-  sized r w f g = record { factor = λ k. f k .0; radius = λ a b c d. g (else-circle r w a b c d) .0 }
+  eighteen : (r : Raw) → Formed r → (r .kind ≡ glyphKind → (1 ≤ r .factor) × (r .factor ≤ 16))
+      → (r .kind ≡ circleKind → (1 ≤ r .x1) × (r .x1 ≤ 2000)) → Eighteen r
+  eighteen r w f g = record { factor = λ k. f k .0; radius = λ a b c d. g (else-circle r w a b c d) .0 }
 
   -- the five tests of a record in their order: past 16 to 18 the fifth decides
   abbrev decodedBy : Bool → Bool → Bool → Bool → Record → Decoded
@@ -168,7 +168,7 @@ module _ (p h glyphs : ℕ) where
           number = known-means r (w .1);
           factor = g;
           radius = s;
-          inside = record-judged r (sized r f g s) .inside (test-in (insideB m (figureOf r)) _ (w .4));
+          inside = record-judged r (eighteen r f g s) .inside (test-in (insideB m (figureOf r)) _ (w .4));
         }
 
     pub record-granted : LawfulRecord p h glyphs r → numberOf (judged m (decodedOf r glyphs)) ≡ 0
@@ -187,7 +187,7 @@ module _ (p h glyphs : ℕ) where
           known-is r (w .number),
           factor-is r (w .factor),
           radius-is r (w .radius),
-          judges-only (record-judged r (sized r f (w .factor) (w .radius))) (w .inside),
+          judges-only (record-judged r (eighteen r f (w .factor) (w .radius))) (w .inside),
         )
 
     -- "19 | a dot outside": some dot of the record's shape lies outside the plane, and where 16 to 18 do not arise only there
@@ -196,7 +196,7 @@ module _ (p h glyphs : ℕ) where
     nineteen-means e =
         let w = tests (recordFormB r) (knownB r glyphs) (factorB r) (radiusB r) _ 19 e (λ k. omega arith) (λ k. omega arith)
         (λ k. omega arith) in
-        record-judged r (sized r (form-means r (w .0)) (factor-means r (w .2)) (radius-means r (w .3)))
+        record-judged r (eighteen r (form-means r (w .0)) (factor-means r (w .2)) (radius-means r (w .3)))
         .outside (test-out (insideB m (figureOf r)) _ (w .4))
 
     pub nineteen-only : numberOf (decodedOf r glyphs) ≡ 0 → Outside p h (recordOn r) → numberOf (judged m (decodedOf r glyphs)) ≡ 19
@@ -208,5 +208,5 @@ module _ (p h glyphs : ℕ) where
           w .1,
           w .2,
           w .3,
-          outside-only (record-judged r (sized r (form-means r (w .0)) (factor-means r (w .2)) (radius-means r (w .3)))) o,
+          outside-only (record-judged r (eighteen r (form-means r (w .0)) (factor-means r (w .2)) (radius-means r (w .3)))) o,
         )

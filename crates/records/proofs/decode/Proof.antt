@@ -1,7 +1,7 @@
 -- `decode` gives `decodedOf`: one law of DecodeLaws for each way out.
 use mathlib.Core.Path.{sym, _∙_}
 use borrow.Author.Tests.{not-true, not-false}
-use Rattle.records.proofs.DecodeLaws.{misformed, unknown, misfactored, missized, stands-for}
+use Rattle.records.proofs.DecodeLaws.{misformed, unknown, misfactored, out-of-range, stands-for}
 use borrow.Author.Needs.{needs}
 use Rattle.records.proofs.decode.Statement.{statement}
 use Rattle.records.proofs.decode.Tie as tie
@@ -30,17 +30,17 @@ returns-3 c =
     (sym (c .before .before .before .known .ensures) ∙ not-false _ (c .before .before .if2 .left))
     (sym (c .before .factored .ensures) ∙ not-true _ (c .if3 .taken))
 
-sized-requires : tie.Need-sized-requires
-sized-requires c κs = search needs
+radius-right-requires : tie.Need-radius-right-requires
+radius-right-requires c κs = search needs
 
 returns-4 : tie.Need-returns-4
 returns-4 c =
     let f = c .before .before in
-    missized _ _ (sym (f .before .before .before .before .before .formed .ensures)
+    out-of-range _ _ (sym (f .before .before .before .before .before .formed .ensures)
     ∙ not-false _ (f .before .before .before .before .if1 .left))
     (sym (f .before .before .before .known .ensures) ∙ not-false _ (f .before .before .if2 .left))
     (sym (f .before .factored .ensures) ∙ not-false _ (f .if3 .left))
-    (sym (c .before .sized .ensures) ∙ not-true _ (c .if4 .taken))
+    (sym (c .before .radius-right .ensures) ∙ not-true _ (c .if4 .taken))
 
 operation-of-requires : tie.Need-operation-of-requires
 operation-of-requires c κs = search needs
@@ -57,7 +57,7 @@ returns-5 c =
     ∙ not-false _ (f .before .before .before .before .if1 .left))
     (sym (f .before .before .before .known .ensures) ∙ not-false _ (f .before .before .if2 .left))
     (sym (f .before .factored .ensures) ∙ not-false _ (f .if3 .left))
-    (sym (s .before .sized .ensures) ∙ not-false _ (s .if4 .left)))
+    (sym (s .before .radius-right .ensures) ∙ not-false _ (s .if4 .left)))
 
 pub decode-spec : {M : Type 1} → statement M
 decode-spec =
@@ -69,7 +69,7 @@ decode-spec =
     returns-2
     factored-requires
     returns-3
-    sized-requires
+    radius-right-requires
     returns-4
     operation-of-requires
     figure-of-requires
