@@ -1,6 +1,5 @@
 pub mod OutLaws
 pub mod WayLaws
 pub mod CircleLaws
-pub mod OrderLaws
 pub mod SizeLaws
 pub mod OutsideLaws
