@@ -1,12 +1,8 @@
-// An arc under way: the running D, D1 and D2, the moves from dot to dot, and what FIGD begins.
+// An arc under way: the running D, D1 and D2, and the moves from dot to dot.
 use dots::Cursor;
-use registers::Drawing;
-use registers::Registers;
 use registers::Running;
-use registers::Work;
 ghost use mathlib.Core.Path.{_≡_};
 ghost use Rattle.arcs.specs.Arc.{gained, losing, turnsB, runningOn, arcDirection, movedOn, passed};
-ghost use Rattle.arcs.specs.Unit.{copied, arcBegun};
 
 // D is two's complement of 14 bits; a number of 14 bits that loses 2 gains 2^14 - 2.
 const SIGN: u16 = 8192;
@@ -87,7 +83,7 @@ pub fn move_on(dir: u8, pitch: u8, m: Moving) -> Moving
     }
 }
 
-// The moves of n dots that are passed over.
+// The moves of n dots that are passed over, for every mask.
 pub fn pass(dir: u8, pitch: u8, m: Moving, n: u16) -> Moving
     ensures { λ q. ⌜ q ≡ passed dir pitch m n ⌝ }
 {
@@ -98,44 +94,4 @@ pub fn pass(dir: u8, pitch: u8, m: Moving, n: u16) -> Moving
         k += 1;
     }
     at
-}
-
-// The copies with which an arc begins.
-fn copy(f: Drawing) -> Running
-    ensures { λ a. ⌜ a ≡ copied f ⌝ }
-{
-    Running {
-        d: f.d,
-        d1: f.d1,
-        d2: f.d2,
-    }
-}
-
-// FIGD for an arc: it is in progress, or, where it has no dot to draw, its moves are made.
-pub fn begin_arc(r: Registers) -> Registers
-    ensures { λ q. ⌜ q ≡ arcBegun r ⌝ }
-{
-    let f = r.drawing;
-    let a = copy(f);
-    if 0 < registers::arc_cycles_of(f) {
-        return Registers {
-            work: Work::Arc {
-                cycle: 0,
-                running: a,
-            },
-            ..r
-        };
-    }
-    let c = r.cursor;
-    let m = pass(
-        f.dir,
-        r.pitch,
-        Moving {
-            running: a,
-            cursor: c,
-        },
-        f.dc,
-    );
-    let at = m.cursor;
-    Registers { cursor: at, ..r }
 }

@@ -228,7 +228,7 @@ fn begin_figd(r: Registers) -> Registers
     ensures { λ q. ⌜ q ≡ figdTaken r ⌝ }
 {
     if r.drawing.kind == registers::ARC_KIND {
-        return arcs::begin_arc(r);
+        return passes::begin_arc(r);
     }
     begin_figure(r)
 }

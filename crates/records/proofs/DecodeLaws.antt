@@ -26,7 +26,8 @@ module _ (r : Raw) (glyphs : ℕ) where
   unfolding decodedOf
   misfactored f k g = rw (f, k, g)
 
-  pub out-of-range : recordFormB r ≡ true → knownB r glyphs ≡ true → factorB r ≡ true → radiusB r ≡ false → Refused Radius ≡ decodedOf r glyphs
+  pub out-of-range : recordFormB r ≡ true → knownB r glyphs ≡ true → factorB r ≡ true → radiusB r ≡ false
+      → Refused Radius ≡ decodedOf r glyphs
   unfolding decodedOf
   out-of-range f k g s = rw (f, k, g, s)
 

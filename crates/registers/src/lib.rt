@@ -280,7 +280,8 @@ pub fn drawing_fits(f: Drawing) -> bool
         & (f.dm < FOURTEEN_BITS)
 }
 
-fn running_fits(a: Running) -> bool
+// The copies of an arc have 14 bits.
+pub fn running_fits(a: Running) -> bool
     ensures { λ t. ⌜ t ≡ runningB a ⌝ }
 {
     (a.d < FOURTEEN_BITS) & (a.d1 < FOURTEEN_BITS) & (a.d2 < FOURTEEN_BITS)

@@ -5,40 +5,20 @@ use dots::Cursor;
 use registers::Running;
 use registers::Work;
 use walks::Brush;
-use walks::bits::address_of;
 use walks::least_of;
 ghost use mathlib.Core.Path.{_≡_};
 ghost use Prim.Native.Nat.{_-_};
-ghost use Rattle.arcs.specs.Arc.{passed};
 ghost use Rattle.bursts.specs.Burst.{burst};
 ghost use Rattle.sweeps.specs.Sweep.{metBy, swept, arcWalk, arcBurst};
 
 mod bits;
-
-// Where an arc stands whose mask is one bit: the bit address, and the running D, D1 and D2.
-pub struct Place {
-    pub at: u32,
-    pub running: Running,
-}
-
-// The moves of n dots that are passed over: by bit addresses where the mask is one bit.
-fn pass_over(b: Brush, m: Moving, n: u16) -> Moving
-    ensures { λ q. ⌜ q ≡ passed (b .drawing .dir) (b .pitch) m n ⌝ }
-{
-    let at = address_of(m.cursor);
-    if 4194304 <= at {
-        return arcs::pass(b.drawing.dir, b.pitch, m, n);
-    }
-    let a = m.running;
-    bits::pass_bits(b, a, at, n)
-}
 
 // Where cycle k is made.
 fn meet(b: Brush, m: Moving, k: u32) -> Moving
     ensures { λ q. ⌜ q ≡ metBy b k m ⌝ }
 {
     if k == 0 {
-        return pass_over(b, m, b.drawing.dm);
+        return passes::pass(b.drawing.dir, b.pitch, m, b.drawing.dm);
     }
     m
 }
@@ -62,12 +42,11 @@ fn plain_arc(mem: &mut [u16], b: Brush, from: Moving, i: u32, end: u32) -> Movin
 fn arc_dots(mem: &mut [u16], b: Brush, from: Moving, i: u32, end: u32) -> Moving
     ensures { λ q. ⌜ swept q (now (mem .exit)) ≡ arcWalk b (end - i) i from (now (mem .entry)) ⌝ }
 {
-    let at = address_of(from.cursor);
+    let at = passes::address_of(from);
     if 4194304 <= at {
         return plain_arc(mem, b, from, i, end);
     }
-    let a = from.running;
-    bits::arc_bits(mem, b, a, at, i, end)
+    bits::arc_bits(mem, b, from, at, i, end)
 }
 
 // At most so many units of the arc whose cycle k is next. A dot's pattern bit is told by its number modulo 16.

@@ -1,5 +1,4 @@
 -- `arc_dots` walks as the cursor does, either way.
-use Rattle.sweeps.proofs.PlaceLaws.{walk-by-bits}
 use borrow.Author.Needs.{needs}
 use Rattle.sweeps.proofs.arc_dots.Statement.{statement}
 use Rattle.sweeps.proofs.arc_dots.Tie as tie
@@ -17,16 +16,13 @@ returns : tie.Need-returns
 returns c = c .before .before .plain-arc .ensures
 
 arc-bits-requires : tie.Need-arc-bits-requires
-arc-bits-requires c κs = search needs
+arc-bits-requires c κs = (c .before .if1 .left, c .before .before .address-of .ensures)
 
 same-length-2 : tie.Need-same-length-2
 same-length-2 c = search needs
 
 returns-2 : tie.Need-returns-2
-returns-2 c =
-    let s = c .before .before .before .before .before .before .before .before in
-    walk-by-bits (s .args .b) (s .args .from) (c .before .before .before .before .before .before .address-of .ensures)
-    (c .before .before .before .before .before .if1 .left) _ _ _ (c .before .before .arc-bits .ensures)
+returns-2 c = c .before .before .arc-bits .ensures
 
 pub arc-dots-spec : {M : Type 1} → statement M
 arc-dots-spec =

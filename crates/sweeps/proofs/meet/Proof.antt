@@ -4,14 +4,14 @@ use borrow.Author.Needs.{needs}
 use Rattle.sweeps.proofs.meet.Statement.{statement}
 use Rattle.sweeps.proofs.meet.Tie as tie
 
-pass-over-requires : tie.Need-pass-over-requires
-pass-over-requires c κs = search needs
+pass-requires : tie.Need-pass-requires
+pass-requires c κs = search needs
 
 returns : tie.Need-returns
-returns c = rw (c .pass-over .ensures, eq-eqb (c .before .before .args .k) 0 (c .before .if1 .taken))
+returns c = rw (c .pass .ensures, eq-eqb (c .before .before .args .k) 0 (c .before .if1 .taken))
 
 returns-2 : tie.Need-returns-2
 returns-2 c = rw (ne-eqb (c .before .args .k) 0 (c .if1 .left))
 
 pub meet-spec : {M : Type 1} → statement M
-meet-spec = tie.close (tie.spec pass-over-requires returns returns-2)
+meet-spec = tie.close (tie.spec pass-requires returns returns-2)

@@ -1,6 +1,5 @@
 -- `arc_bits` walks as the cursor does (`bits-walk`).
-use Rattle.walks.proofs.BitLaws.{stride-small}
-use Rattle.sweeps.proofs.PlaceLaws.{bits-walk}
+use Rattle.sweeps.proofs.WalkLaws.{bits-walk}
 use borrow.Author.Needs.{needs}
 use Rattle.sweeps.proofs.bits.arc_bits.Statement.{statement}
 use Rattle.sweeps.proofs.bits.arc_bits.Tie as tie
@@ -17,32 +16,36 @@ diagonal-of-requires c κs = search needs
 stride-requires-2 : tie.Need-stride-requires-2
 stride-requires-2 c κs = search needs
 
-array-read-arc-any : tie.Need-array-read-arc-any
-array-read-arc-any c = search needs
+place-of-requires : tie.Need-place-of-requires
+place-of-requires c κs = search needs
 
-array-read-arc-any-2 : tie.Need-array-read-arc-any-2
-array-read-arc-any-2 c = search needs
+array-read-arc-by : tie.Need-array-read-arc-by
+array-read-arc-by c = search needs
 
-arc-any-requires : tie.Need-arc-any-requires
-arc-any-requires c κs = (
-  c .before .before .before .before .before .before .before .pre,
-  (stride-small (c .before .before .before .before .stride .ensures), stride-small (c .before .before .stride2 .ensures)),
-)
+array-read-arc-by-2 : tie.Need-array-read-arc-by-2
+array-read-arc-by-2 c = search needs
 
-cursor-at-requires : tie.Need-cursor-at-requires
-cursor-at-requires c κs = search needs
+cast-arc-by : tie.Need-cast-arc-by
+cast-arc-by c = search needs
+
+arc-by-requires : tie.Need-arc-by-requires
+arc-by-requires c κs = search needs
+
+standing-requires : tie.Need-standing-requires
+standing-requires c κs = search needs
 
 same-length : tie.Need-same-length
 same-length c = search needs
 
 returns : tie.Need-returns
 returns c =
-    bits-walk _ _ _ (c .before .before .before .before .before .before .before .before .before .before .before .before .pre)
-    (c .before .before .before .before .before .before .before .before .before .before .axis-of .ensures)
-    (c .before .before .before .before .before .before .before .before .before .stride .ensures)
-    (c .before .before .before .before .before .before .before .before .diagonal-of .ensures)
-    (c .before .before .before .before .before .before .before .stride2 .ensures) _ _ _ _
-    (c .before .before .before .before .arc-any .ensures) (c .cursor-at .ensures)
+    let s = c .before .before .before .before .before .before .before .before .before .before .before .before in
+    bits-walk _ _ _ (c .before .before .before .before .before .before .before .before .before .before .before .axis-of .ensures)
+    (c .before .before .before .before .before .before .before .before .before .before .stride .ensures)
+    (c .before .before .before .before .before .before .before .before .before .diagonal-of .ensures)
+    (c .before .before .before .before .before .before .before .before .stride2 .ensures) _ _ _ _ _ _ (s .before .pre .1)
+    (s .before .pre .0)
+    (c .before .before .before .before .before .place-of .ensures) (c .before .before .before .arc-by .ensures) (c .standing .ensures)
 
 pub arc-bits-spec : {M : Type 1} → statement M
 arc-bits-spec =
@@ -52,9 +55,11 @@ arc-bits-spec =
     stride-requires
     diagonal-of-requires
     stride-requires-2
-    array-read-arc-any
-    array-read-arc-any-2
-    arc-any-requires
-    cursor-at-requires
+    place-of-requires
+    array-read-arc-by
+    array-read-arc-by-2
+    cast-arc-by
+    arc-by-requires
+    standing-requires
     same-length
     returns)

@@ -1,8 +1,8 @@
 -- `begin_arc` is the definition, by whether the arc has a dot to draw.
 use Rattle.arcs.proofs.RunningLaws.{arc-begins, arc-passes}
 use borrow.Author.Needs.{needs}
-use Rattle.arcs.proofs.begin_arc.Statement.{statement}
-use Rattle.arcs.proofs.begin_arc.Tie as tie
+use Rattle.passes.proofs.begin_arc.Statement.{statement}
+use Rattle.passes.proofs.begin_arc.Tie as tie
 
 copy-requires : tie.Need-copy-requires
 copy-requires c κs = search needs
