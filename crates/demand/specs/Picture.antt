@@ -36,10 +36,8 @@ unfoldable pub figuresMade : List ℕ → List Record → Picture → Picture
 figuresMade table [] pic = pic
 figuresMade table (r ∷ l) pic = figuresMade table l (figureMade table (r .op) (r .figure) pic)
 
--- how many dots a figure has; a border goes all round, or there alone where it is "one dot wide or high"; each of a circle's eight octants
--- has "the largest i" dots beside the end of its axis, there are four such ends, and "where the octants' last dots coincide on the
--- diagonal"
--- four of the last dots are each two octants'
+-- how many dots a figure has; a border goes all round, or there alone where it is "one dot wide or high"; a circle has four ends, in each
+-- octant "the largest i" dots more, and four fewer "where the octants' last dots coincide on the diagonal"
 abbrev pub figureDots : Figure → ℕ
 figureDots (Dot a) = 1
 figureDots (Line a b) = max (distance (a .x) (b .x)) (distance (a .y) (b .y)) + 1
