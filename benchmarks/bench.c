@@ -266,14 +266,17 @@ static double median_translation(const struct sheet *s) {
     return each[ROUNDS / 2];
 }
 
-/* A line's dot for lines of 250 to 16,000; a figure for sheets of 1 to 16 blocks. */
+/* A line's dot, and an arc's, for figures of 250 to 16,000; a figure for sheets of 1 to 16 blocks. */
 static void growth(const char *folder) {
     char name[20];
-    for (int n = 250; n <= 16000; n *= 2) {
-        snprintf(name, sizeof name, "line%d", n);
-        const struct load *l = load_named(folder, name);
-        printf("line of %5d dots: %6.2f ns a dot, by hand %6.2f\n", n, median_of(l, WHOLE) / (2 * n), median_of(l, HAND_WHOLE) / (2 * n));
-    }
+    static const char *const figures[] = {"line", "arc"};
+    for (int k = 0; k < 2; k++)
+        for (int n = 250; n <= 16000; n *= 2) {
+            snprintf(name, sizeof name, "%s%d", figures[k], n);
+            const struct load *l = load_named(folder, name);
+            printf("%4s of %5d dots: %6.2f ns a dot, by hand %6.2f\n", figures[k], n, median_of(l, WHOLE) / (2 * n),
+                   median_of(l, HAND_WHOLE) / (2 * n));
+        }
     for (int blocks = 1; blocks <= 16; blocks *= 2) {
         snprintf(name, sizeof name, "sheet%d", blocks);
         const struct load *l = load_named(folder, name);

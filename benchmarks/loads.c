@@ -136,6 +136,11 @@ static void arc(unsigned dir, unsigned radius, unsigned dc, unsigned dm) {
     ADD("\x6C");
 }
 
+/* Two arcs of so many dots, from the plane's first dot; past its octant an arc is no circle's, but its dots cost the same. */
+static void two_arcs(unsigned dots) {
+    for (int k = 0; k < 2; k++) ADD("\x47\xFF"), ADD("\x49\x00\x00\x00"), ADD("\x78\xFF\xFF"), ADD("\x21"), arc(1, 4000, dots - 1, 0);
+}
+
 /* Octants of radius 4,000 that are passed over, in each direction two: one up to its last dot, which is drawn, and one to its end, where
    a dot is drawn for it. */
 static void passed(void) {
@@ -167,6 +172,7 @@ struct load *load_named(const char *folder, const char *name) {
     else if (!strcmp(name, "circles")) begin("circles", "dot", 0), translated(&made, sheet_of(folder, "circles.sheet", 16, 255, 1028));
     else if (!strcmp(name, "passed")) begin("passed", "step", 0), passed();
     else if (!strncmp(name, "line", 4)) begin("line", "dot", 0), two_lines((unsigned)atoi(name + 4));
+    else if (!strncmp(name, "arc", 3)) begin("arc", "dot", 0), two_arcs((unsigned)atoi(name + 3));
     else if (!strncmp(name, "sheet", 5))
         begin("sheet", "dot", 0), translated(&made, sheet_of(folder, "glyphs.sheet", atoi(name + 5), 40, 400));
     else return NULL;
