@@ -1,2 +1,3 @@
 mod FitLaws
 mod ZeroLaws
+pub mod FormLaws

@@ -47,18 +47,17 @@ fn no_reading(w: PlainWork) -> bool
     (w.item as u32 | w.transfer as u32) == 0
 }
 
+// A kind of work, and of each field that it has no use for nothing.
 fn work_formed(w: PlainWork) -> bool
     ensures { λ t. ⌜ t ≡ workFormB w ⌝ }
 {
     let kind = w.kind;
-    match kind {
-        0 => no_figure(w) & no_arc(w) & no_character(w) & no_reading(w),
-        1 => no_arc(w) & no_character(w) & no_reading(w),
-        2 => no_figure(w) & no_arc(w) & no_reading(w),
-        3 => no_figure(w) & no_arc(w) & no_character(w) & (w.transfer < numbers::TRANSFERS),
-        4 => no_character(w) & no_reading(w),
-        _ => false,
-    }
+    (kind < 5)
+        & ((kind == 1) | (kind == 4) | no_figure(w))
+        & ((kind == 4) | no_arc(w))
+        & ((kind == 2) | no_character(w))
+        & ((kind != 3) | (w.transfer < numbers::TRANSFERS))
+        & ((kind == 3) | no_reading(w))
 }
 
 // Each bit is 0 or 1.
