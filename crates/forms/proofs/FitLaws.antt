@@ -1,4 +1,4 @@
--- Form and soundness together, part by part as `fits` tests them: what is in progress, the numbers, the command, the buffer. True
+-- Form and soundness together, part by part as `fits` tests them: the numbers, the command, what is in progress, the buffer. True
 -- since both are conjunctions, which may be put in another order.
 use mathlib.Core.Path.{_≡_, refl, sym, ap, _∙_}
 use mathlib.Core.Bool.{Bool, true, false, _&&_, and-false, and-assoc, and-comm}
@@ -9,28 +9,24 @@ use Rattle.plain.specs.Numbers.{modeOf}
 use Rattle.plain.specs.Parts.{cursorOf, drawingOf, bufferOf, workOf}
 use Rattle.plain.specs.Form.{commandFormB, workFormB, bitsB, plainFormB}
 use Rattle.plain.specs.Mirror.{fromPlain}
-use Rattle.forms.specs.Fit.{numbersB}
+use Rattle.forms.specs.Fit.{placedB, numbersB}
 
 inner : (a b c d : Bool) → ((a && b) && (c && d)) ≡ ((a && c) && (b && d))
 inner true true c d = refl
 inner true false c d = sym (and-false c)
 inner false b c d = refl
 
-ordered : (a k w s b p m : Bool) → (((a && k) && w) && (((s && b) && p) && m)) ≡ ((((w && p && m) && (a && s)) && k) && b)
-ordered a k w s b p m =
-    ap (λ (x : Bool). ((a && k) && w) && x) (and-assoc (s && b) p m)
-    ∙ inner (a && k) w (s && b) (p && m)
-    ∙ ap (λ (x : Bool). x && (w && (p && m))) (inner a k s b)
-    ∙ and-comm ((a && s) && (k && b)) (w && (p && m))
-    ∙ ap (λ (x : Bool). x && ((a && s) && (k && b))) (sym (and-assoc w p m))
-    ∙ sym (and-assoc (w && p && m) (a && s) (k && b))
-    ∙ sym (and-assoc ((w && p && m) && (a && s)) k b)
+ordered : (a k w s b p : Bool) → (((a && k) && w) && ((s && b) && p)) ≡ ((((a && s) && k) && (w && p)) && b)
+ordered a k w s b p =
+    inner (a && k) w (s && b) p
+    ∙ ap (λ (x : Bool). x && (w && p)) (inner a k s b ∙ sym (and-assoc (a && s) k b))
+    ∙ and-assoc ((a && s) && k) b (w && p)
+    ∙ ap (λ (x : Bool). ((a && s) && k) && x) (and-comm b (w && p))
+    ∙ sym (and-assoc ((a && s) && k) (w && p) b)
 
 module _ (p : PlainRegisters) where
   abbrev inProgressB : Bool
-  inProgressB =
-      workFormB (p .work) && placeB (drawingOf (p .drawing)) (p .video .zoom) (workOf (p .work))
-      && workB (modeOf (p .mode)) (workOf (p .work))
+  inProgressB = workFormB (p .work) && placedB (drawingOf (p .drawing)) (p .video .zoom) (modeOf (p .mode)) (workOf (p .work))
 
   abbrev commandB : Bool
   commandB = commandFormB (p .progress .command) (p .progress .transfer)
@@ -38,14 +34,18 @@ module _ (p : PlainRegisters) where
   abbrev heldB : Bool
   heldB = bufferB (modeOf (p .mode)) (bufferOf (p .buffer))
 
-  all : (plainFormB p && soundB (fromPlain p)) ≡ (((inProgressB && numbersB p) && commandB) && heldB)
+  all : (plainFormB p && soundB (fromPlain p)) ≡ (((numbersB p && commandB) && inProgressB) && heldB)
   unfolding plainFormB soundB fromPlain
   all =
-      ordered (bitsB p && ltb (p .op) 4 && ltb (p .mode) 2) commandB (workFormB (p .work))
-      (cursorB (cursorOf (p .cursor)) && drawingB (drawingOf (p .drawing)) && ltb (p .pen .address) 262144 && leb (p .progress .next) 16)
-      heldB (placeB (drawingOf (p .drawing)) (p .video .zoom) (workOf (p .work))) (workB (modeOf (p .mode)) (workOf (p .work)))
+      let n = cursorB (cursorOf (p .cursor)) && drawingB (drawingOf (p .drawing)) && ltb (p .pen .address) 262144
+      && leb (p .progress .next) 16 in
+      ap (λ (x : Bool). plainFormB p && x)
+      (and-assoc (n && heldB) (placeB (drawingOf (p .drawing)) (p .video .zoom) (workOf (p .work)))
+      (workB (modeOf (p .mode)) (workOf (p .work))))
+      ∙ ordered (bitsB p && ltb (p .op) 4 && ltb (p .mode) 2) commandB (workFormB (p .work)) n heldB
+      (placedB (drawingOf (p .drawing)) (p .video .zoom) (modeOf (p .mode)) (workOf (p .work)))
 
   -- the four tests, each with what it found
-  pub by-parts : {w n k b : Bool} → w ≡ inProgressB → n ≡ numbersB p → k ≡ commandB → b ≡ heldB
-      → (((w && n) && k) && b) ≡ (plainFormB p && soundB (fromPlain p))
+  pub by-parts : {n k w b : Bool} → n ≡ numbersB p → k ≡ commandB → w ≡ inProgressB → b ≡ heldB
+      → (((n && k) && w) && b) ≡ (plainFormB p && soundB (fromPlain p))
   by-parts e f g h = (λ i. ((e i && f i) && g i) && h i) ∙ sym all

@@ -5,13 +5,15 @@ use plain::numbers;
 use plain::parts;
 use registers::Drawing;
 use registers::Mode;
+use registers::Running;
+use registers::Work;
 ghost use mathlib.Core.Path.{_≡_};
 ghost use mathlib.Core.Bool.{_&&_};
-ghost use Rattle.registers.specs.Sound.{placeB, workB, soundB};
+ghost use Rattle.registers.specs.Sound.{soundB};
 ghost use Rattle.plain.specs.Form.{commandFormB, noFigureB, noArcB, noCharacterB, noReadingB, workFormB, bitsB, plainFormB};
 ghost use Rattle.plain.specs.Parts.{workOf};
 ghost use Rattle.plain.specs.Mirror.{fromPlain};
-ghost use Rattle.forms.specs.Fit.{numbersB};
+ghost use Rattle.forms.specs.Fit.{placedB, nothingB, figureB, characterB, readB, arcB, numbersB};
 
 fn command_formed(n: u8, transfer: u8) -> bool
     ensures { λ t. ⌜ t ≡ commandFormB n transfer ⌝ }
@@ -76,12 +78,83 @@ pub fn formed(p: PlainRegisters) -> bool
     bits & (p.op < numbers::OPERATIONS) & (p.mode < numbers::MODES) & command & work
 }
 
-// What is in progress is formed, inside its figure or read, and of its mode.
-fn work_fits(w: PlainWork, f: Drawing, zoom: u8, m: Mode) -> bool
-    ensures { λ t. ⌜ t ≡ (workFormB w && placeB f zoom (workOf w) && workB m (workOf w)) ⌝ }
+// What is in progress is inside its figure or read, and of its mode.
+fn placed(f: Drawing, zoom: u8, m: Mode, work: Work) -> bool
+    ensures { λ t. ⌜ t ≡ placedB f zoom m work ⌝ }
 {
-    let work = parts::work_of(w);
-    work_formed(w) & registers::place_fits(f, zoom, work) & registers::work_fits(m, work)
+    registers::place_fits(f, zoom, work) & registers::work_fits(m, work)
+}
+
+// Kind by kind: the fields that it has no use for are 0, and it is placed.
+fn nothing_fits(w: PlainWork) -> bool
+    ensures { λ t. ⌜ t ≡ nothingB w ⌝ }
+{
+    no_figure(w) & no_arc(w) & no_character(w) & no_reading(w)
+}
+
+fn figure_fits(w: PlainWork, f: Drawing, zoom: u8, m: Mode) -> bool
+    ensures { λ t. ⌜ t ≡ figureB w f zoom m ⌝ }
+{
+    let spare = no_arc(w) & no_character(w) & no_reading(w);
+    let figure = Work::Figure { dot: w.dot, d: w.d };
+    spare & placed(f, zoom, m, figure)
+}
+
+fn character_fits(w: PlainWork, f: Drawing, zoom: u8, m: Mode) -> bool
+    ensures { λ t. ⌜ t ≡ characterB w f zoom m ⌝ }
+{
+    let spare = no_figure(w) & no_arc(w) & no_reading(w);
+    let start = parts::cursor_of(w.start);
+    let character = Work::Character {
+        row: w.row,
+        column: w.column,
+        start: start,
+    };
+    spare & placed(f, zoom, m, character)
+}
+
+fn read_fits(w: PlainWork, f: Drawing, zoom: u8, m: Mode) -> bool
+    ensures { λ t. ⌜ t ≡ readB w f zoom m ⌝ }
+{
+    let spare = no_figure(w) & no_arc(w) & no_character(w) & (w.transfer < numbers::TRANSFERS);
+    let transfer = numbers::transfer_of(w.transfer);
+    let read = Work::Reading {
+        item: w.item,
+        transfer: transfer,
+    };
+    spare & placed(f, zoom, m, read)
+}
+
+fn arc_fits(w: PlainWork, f: Drawing, zoom: u8, m: Mode) -> bool
+    ensures { λ t. ⌜ t ≡ arcB w f zoom m ⌝ }
+{
+    let spare = no_character(w) & no_reading(w);
+    let arc = Work::Arc {
+        cycle: w.dot,
+        running: Running {
+            d: w.d,
+            d1: w.d1,
+            d2: w.d2,
+        },
+    };
+    spare & placed(f, zoom, m, arc)
+}
+
+// What is in progress is formed and placed.
+fn work_fits(w: PlainWork, f: Drawing, zoom: u8, m: Mode) -> bool
+    ensures { λ t. ⌜ t ≡ (workFormB w && placedB f zoom m (workOf w)) ⌝ }
+{
+    let kind = w.kind;
+    if kind == 0 {
+        return nothing_fits(w);
+    }
+    match kind {
+        1 => figure_fits(w, f, zoom, m),
+        2 => character_fits(w, f, zoom, m),
+        3 => read_fits(w, f, zoom, m),
+        4 => arc_fits(w, f, zoom, m),
+        _ => false,
+    }
 }
 
 // Each number that stands for itself is within its width.
@@ -101,15 +174,15 @@ fn numbers_fit(p: PlainRegisters) -> bool
 pub fn fits(p: PlainRegisters) -> bool
     ensures { λ t. ⌜ t ≡ (plainFormB p && soundB (fromPlain p)) ⌝ }
 {
-    let mode = numbers::mode_of(p.mode);
-    let f = parts::drawing_of(p.drawing);
-    if !work_fits(p.work, f, p.video.zoom, mode) {
-        return false;
-    }
     if !numbers_fit(p) {
         return false;
     }
     if !command_formed(p.progress.command, p.progress.transfer) {
+        return false;
+    }
+    let mode = numbers::mode_of(p.mode);
+    let f = parts::drawing_of(p.drawing);
+    if !work_fits(p.work, f, p.video.zoom, mode) {
         return false;
     }
     registers::buffer_fits(mode, parts::buffer_of(p.buffer))

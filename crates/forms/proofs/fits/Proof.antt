@@ -6,6 +6,25 @@ use borrow.Author.Needs.{needs}
 use Rattle.forms.proofs.fits.Statement.{statement}
 use Rattle.forms.proofs.fits.Tie as tie
 
+numbers-fit-requires : tie.Need-numbers-fit-requires
+numbers-fit-requires c κs = search needs
+
+returns : tie.Need-returns
+returns c =
+    by-parts (c .before .before .args .p)
+    (sym (not-true _ (c .if1 .taken)) ∙ c .before .numbers-fit .ensures)
+    refl refl refl
+
+command-formed-requires : tie.Need-command-formed-requires
+command-formed-requires c κs = search needs
+
+returns-2 : tie.Need-returns-2
+returns-2 c =
+    by-parts (c .before .before .before .before .args .p)
+    (sym (not-false _ (c .before .before .if1 .left)) ∙ c .before .before .before .numbers-fit .ensures)
+    (sym (not-true _ (c .if2 .taken)) ∙ c .before .command-formed .ensures)
+    refl refl
+
 mode-of-requires : tie.Need-mode-of-requires
 mode-of-requires c κs = search needs
 
@@ -15,39 +34,14 @@ drawing-of-requires c κs = search needs
 work-fits-requires : tie.Need-work-fits-requires
 work-fits-requires c κs = search needs
 
-returns : tie.Need-returns
-returns c =
-    by-parts (c .before .before .before .before .args .p)
-    (sym (not-true _ (c .if1 .taken)) ∙ (rw (c .before .before .drawing-of .ensures, c .before .before .before .mode-of .ensures) at
-    (c .before .work-fits .ensures)))
-    refl refl refl
-
-numbers-fit-requires : tie.Need-numbers-fit-requires
-numbers-fit-requires c κs = search needs
-
-returns-2 : tie.Need-returns-2
-returns-2 c =
-    by-parts (c .before .before .before .before .before .before .args .p)
-    (sym (not-false _ (c .before .before .if1 .left))
-    ∙ (rw (c .before .before .before .before .drawing-of .ensures, c .before .before .before .before .before .mode-of .ensures) at
-    (c .before .before .before .work-fits .ensures)))
-    (sym (not-true _ (c .if2 .taken)) ∙ c .before .numbers-fit .ensures)
-    refl refl
-
-command-formed-requires : tie.Need-command-formed-requires
-command-formed-requires c κs = search needs
-
 returns-3 : tie.Need-returns-3
 returns-3 c =
     by-parts (c .before .before .before .before .before .before .before .before .args .p)
-    (sym (not-false _ (c .before .before .before .before .if1 .left))
-    ∙ (rw (
-      c .before .before .before .before .before .before .drawing-of .ensures,
-      c .before .before .before .before .before .before .before .mode-of .ensures,
-    ) at
-    (c .before .before .before .before .before .work-fits .ensures)))
-    (sym (not-false _ (c .before .before .if2 .left)) ∙ c .before .before .before .numbers-fit .ensures)
-    (sym (not-true _ (c .if3 .taken)) ∙ c .before .command-formed .ensures)
+    (sym (not-false _ (c .before .before .before .before .before .before .if1 .left))
+    ∙ c .before .before .before .before .before .before .before .numbers-fit .ensures)
+    (sym (not-false _ (c .before .before .before .before .if2 .left)) ∙ c .before .before .before .before .before .command-formed .ensures)
+    (sym (not-true _ (c .if3 .taken))
+    ∙ (rw (c .before .before .drawing-of .ensures, c .before .before .before .mode-of .ensures) at (c .before .work-fits .ensures)))
     refl
 
 buffer-of-requires : tie.Need-buffer-of-requires
@@ -59,28 +53,26 @@ buffer-fits-requires c κs = search needs
 returns-4 : tie.Need-returns-4
 returns-4 c =
     by-parts (c .before .before .before .before .before .before .before .before .before .before .args .p)
-    (sym (not-false _ (c .before .before .before .before .before .before .if1 .left))
-    ∙ (rw (
-      c .before .before .before .before .before .before .before .before .drawing-of .ensures,
-      c .before .before .before .before .before .before .before .before .before .mode-of .ensures,
-    ) at
-    (c .before .before .before .before .before .before .before .work-fits .ensures)))
-    (sym (not-false _ (c .before .before .before .before .if2 .left)) ∙ c .before .before .before .before .before .numbers-fit .ensures)
-    (sym (not-false _ (c .before .before .if3 .left)) ∙ c .before .before .before .command-formed .ensures)
-    (rw (c .before .buffer-of .ensures, c .before .before .before .before .before .before .before .before .before .mode-of .ensures) at
-    (c .buffer-fits .ensures))
+    (sym (not-false _ (c .before .before .before .before .before .before .before .before .if1 .left))
+    ∙ c .before .before .before .before .before .before .before .before .before .numbers-fit .ensures)
+    (sym (not-false _ (c .before .before .before .before .before .before .if2 .left))
+    ∙ c .before .before .before .before .before .before .before .command-formed .ensures)
+    (sym (not-false _ (c .before .before .if3 .left))
+    ∙ (rw (c .before .before .before .before .drawing-of .ensures, c .before .before .before .before .before .mode-of .ensures) at
+    (c .before .before .before .work-fits .ensures)))
+    (rw (c .before .buffer-of .ensures, c .before .before .before .before .before .mode-of .ensures) at (c .buffer-fits .ensures))
 
 pub fits-spec : {M : Type 1} → statement M
 fits-spec =
     tie.close
     (tie.spec
+    numbers-fit-requires
+    returns
+    command-formed-requires
+    returns-2
     mode-of-requires
     drawing-of-requires
     work-fits-requires
-    returns
-    numbers-fit-requires
-    returns-2
-    command-formed-requires
     returns-3
     buffer-of-requires
     buffer-fits-requires
