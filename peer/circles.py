@@ -123,25 +123,69 @@ class Drawn:
 # ---------------------------------------------------------------- the table
 
 HEAD = """\
-radii      the same   dots, ours  and MAME's   in one only  from the true circle, in dots: largest, mean, mean outward   gaps at radii  uneven  met
-           at radii                            (each)       ours                     MAME's                              ours   MAME's  MAME's  twice"""
+                    dots            in one only    ours: largest, mean,  MAME's: the same     gaps at    uneven at  met twice
+radii      same at  ours    MAME's  ours   MAME's  outward               three                ours MAME  ours MAME  ours MAME"""
+
+
+def lies(circles):
+    """How far the dots lie from the true circle: the furthest of them, the mean, and the mean with inward as less than 0."""
+    count = sum(len(circle.dots) for circle in circles)
+    return (f'{max(circle.largest for circle in circles):.3f}  {sum(circle.total for circle in circles) / count:.3f}  '
+            f'{sum(circle.outward for circle in circles) / count:+.3f}')
 
 
 def row_of(first, last, ours, theirs):
     """A row of the table, of the circles of radii first to last."""
-    def lies(circles):
-        count = sum(len(circle.dots) for circle in circles)
-        return (f'{max(circle.largest for circle in circles):.3f}  {sum(circle.total for circle in circles) / count:.3f}  '
-                f'{sum(circle.outward for circle in circles) / count:+.3f}')
-    pairs = list(zip(ours, theirs))
+    both, pairs = (ours, theirs), list(zip(ours, theirs))
+    dots = [sum(len(circle.dots) for circle in circles) for circles in both]
+    alone = [sum(len(one.dots - other.dots) for one, other in some) for some in (pairs, zip(theirs, ours))]
+    gaps = [sum(circle.gaps > 0 for circle in circles) for circles in both]
+    uneven = [sum(not circle.symmetric for circle in circles) for circles in both]
+    twice = [sum(len(circle.dots - circle.odd) for circle in circles) for circles in both]
     same = sum(one.dots == other.dots for one, other in pairs)
-    dots = [sum(len(circle.dots) for circle in circles) for circles in (ours, theirs)]
-    alone = [sum(len(one.dots - other.dots) for one, other in some) for some in (pairs, [(b, a) for a, b in pairs])]
-    gaps = [sum(circle.gaps > 0 for circle in circles) for circles in (ours, theirs)]
-    twice = [sum(len(circle.dots - circle.odd) for circle in circles) for circles in (ours, theirs)]
-    return (f'{first:3} .. {last:3} {same:5} of {last - first + 1:3}  {dots[0]:10}  {dots[1]:10}   {alone[0]:6} {alone[1]:6}  '
-            f'{lies(ours)}    {lies(theirs)}                {gaps[0]:4}   {gaps[1]:5}   {sum(not c.symmetric for c in theirs):5}   '
-            f'{twice[0]} {twice[1]}')
+    return (f'{first:3} .. {last:3} {same:7}  {dots[0]:6}  {dots[1]:6}  {alone[0]:6} {alone[1]:6}  '
+            f'{lies(ours)}  {lies(theirs)}  {gaps[0]:4} {gaps[1]:4}  {uneven[0]:4} {uneven[1]:4}  {twice[0]:4} {twice[1]:4}')
+
+
+def wrong_about(radius, ours, theirs):
+    """Where our circle is not the request's, or MAME's not the one that docs/PEER.md tells."""
+    if not ours.dots == ours.odd == requested(radius):
+        yield f"radius {radius}: our circle is not the one of the request's sentence"
+    met = their_circle(radius)
+    if theirs.dots != set(met) or theirs.odd != {dot for dot, times in met.items() if times % 2}:
+        yield f"radius {radius}: MAME's circle is not the one that docs/PEER.md tells"
+    if not (ours.turned and theirs.turned):
+        yield f'radius {radius}: a circle is not what it was before a quarter turn, so that its gaps are not rightly counted'
+
+
+def said_of(ours, theirs):
+    """The table in words."""
+    pairs = list(zip(ours, theirs))
+    best = [nearest(radius) for radius in range(1, len(ours) + 1)]
+    same = [str(radius) for radius, (one, other) in enumerate(pairs, 1) if one.dots == other.dots]
+    lacking = [len(dots - one.dots) for one, dots in zip(ours, best)]
+    other = [sum(len(circle.dots - dots) for circle, dots in zip(circles, best)) for circles in (ours, theirs)]
+    total, alone = sum(len(one.dots) for one in ours), sum(len(one.dots - other.dots) for one, other in pairs)
+    return [f'Of {len(pairs)} circles {len(same)} are the same in both: radii {", ".join(same)}.',
+            f'In MAME {alone:,} of {total:,} dots ({100 * alone / total:.1f} in a hundred) stand elsewhere; '
+            f'at {sum(not near(*pair) for pair in pairs)} radii one of these is further off than the next place.',
+            f'Of the dots nearest to the true circle, in each column and row, ours lack {max(lacking)} at {sum(map(bool, lacking))} radii; '
+            f"{other[0]} of our dots are none of these, and {other[1]:,} of MAME's."]
+
+
+def near(one, other):
+    """Whether each dot of either is a dot of the other or beside one."""
+    wide = [{(x + right, y + down) for x, y in circle.dots for right in (-1, 0, 1) for down in (-1, 0, 1)} for circle in (one, other)]
+    return one.dots <= wide[1] and other.dots <= wide[0]
+
+
+def enlarged(radius, dots):
+    """A picture in PBM: each dot seven by seven, with a white line to the right of it and below; a dot of the centre small."""
+    side = 2 * radius + 3
+    black = {(8 * (x + radius + 1) + right, 8 * (y + radius + 1) + down) for x, y in dots for right in range(7) for down in range(7)}
+    black |= {(8 * (radius + 1) + right, 8 * (radius + 1) + down) for right in (2, 3, 4) for down in (2, 3, 4)}
+    rows = (bytes(sum(128 >> bit for bit in range(8) if (8 * byte + bit, row) in black) for byte in range(side)) for row in range(8 * side))
+    return b'P4\n%d %d\n' % (8 * side, 8 * side) + b''.join(rows)
 
 
 # ---------------------------------------------------------------- arcs
