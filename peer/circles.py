@@ -109,13 +109,13 @@ def pieces(dots):
 
 
 class Drawn:
-    """A circle as a controller drew it: its dots, those met an even number of times, and how it lies."""
+    """A circle as a controller drew it: the dots that it met, those met an odd number of times, and how it lies."""
 
     def __init__(self, radius, odd, dots):
         away = [math.hypot(x, y) - radius for x, y in dots]
         self.odd, self.dots = odd, dots
         self.largest, self.total, self.outward = max(map(abs, away)), sum(map(abs, away)), sum(away)
-        self.gaps = pieces(dots) - 1
+        self.closed = pieces(dots) == 1
         self.turned = dots == {(-y, x) for x, y in dots}
         self.symmetric = dots == eightfold(dots)
 
@@ -139,7 +139,7 @@ def row_of(first, last, ours, theirs):
     both, pairs = (ours, theirs), list(zip(ours, theirs))
     dots = [sum(len(circle.dots) for circle in circles) for circles in both]
     alone = [sum(len(one.dots - other.dots) for one, other in some) for some in (pairs, zip(theirs, ours))]
-    gaps = [sum(circle.gaps > 0 for circle in circles) for circles in both]
+    gaps = [sum(not circle.closed for circle in circles) for circles in both]
     uneven = [sum(not circle.symmetric for circle in circles) for circles in both]
     twice = [sum(len(circle.dots - circle.odd) for circle in circles) for circles in both]
     same = sum(one.dots == other.dots for one, other in pairs)
@@ -164,13 +164,13 @@ def said_of(ours, theirs):
     best = [nearest(radius) for radius in range(1, len(ours) + 1)]
     same = [str(radius) for radius, (one, other) in enumerate(pairs, 1) if one.dots == other.dots]
     lacking = [len(dots - one.dots) for one, dots in zip(ours, best)]
-    other = [sum(len(circle.dots - dots) for circle, dots in zip(circles, best)) for circles in (ours, theirs)]
+    strange = [sum(len(circle.dots - dots) for circle, dots in zip(circles, best)) for circles in (ours, theirs)]
     total, alone = sum(len(one.dots) for one in ours), sum(len(one.dots - other.dots) for one, other in pairs)
     return [f'Of {len(pairs)} circles {len(same)} are the same in both: radii {", ".join(same)}.',
             f'In MAME {alone:,} of {total:,} dots ({100 * alone / total:.1f} in a hundred) stand elsewhere; '
             f'at {sum(not near(*pair) for pair in pairs)} radii one of these is further off than the next place.',
             f'Of the dots nearest to the true circle, in each column and row, ours lack {max(lacking)} at {sum(map(bool, lacking))} radii; '
-            f"{other[0]} of our dots are none of these, and {other[1]:,} of MAME's."]
+            f"of our dots {strange[0]} are others, of MAME's {strange[1]:,}."]
 
 
 def near(one, other):
