@@ -24,6 +24,27 @@ def memory(chances):
     return [f'M {LENGTH:X}'] + [f'W {chances.randrange(LENGTH):X} {chances.randrange(0x10000):X}' for _ in range(2000)]
 
 
+def our_moves(d, d2, d1):
+    """Whether each move of an arc is diagonal, by the words of M-100; D stays within 14 bits where this is used."""
+    while True:
+        d, d1 = d + d1, d1 - 2
+        slanted = d < 0
+        if slanted:
+            d, d2 = d + d2, d2 - 2
+        yield slanted
+
+
+def their_moves(d):
+    """Whether each move of an arc in MAME is diagonal, as found by trying (docs/PEER.md). D1 and D2 have no part."""
+    error, along, out = -d, 0, d + 1
+    while True:
+        along += 1
+        slanted = error >= 0
+        out -= slanted
+        error += 2 * (along - out) if slanted else 2 * along
+        yield slanted
+
+
 class Sheet:
     """A plane that fits the memory, glyphs, and figures anywhere on it."""
 
@@ -76,8 +97,8 @@ class Sequence:
     """One to three figures, writes or reads with any masks, patterns, places and directions, short of the differences in docs/PEER.md.
 
     So the pattern and all of FIGS are sent before each, rectangles are solid with two sides of dots and DC 3, a line's D stays within
-    14 bits, characters are 8, 16 or 24 dots wide, REPLACE meets no bit twice in a row of one, WDAT has DC 0, its REPLACE whole words
-    and the mask FFFF, and the cursor is read after no figure.
+    14 bits, arcs are a circle's, end before the two part and are solid past 15 dots, characters are 8, 16 or 24 dots wide, REPLACE meets
+    no bit twice in a row of one, WDAT has DC 0, its REPLACE whole words and the mask FFFF, and the cursor is read after no figure.
     """
 
     def __init__(self, chances):
@@ -89,7 +110,7 @@ class Sequence:
             address = self.pick([0, 0xFFFF, 0x10000, 0x3FFFF, self.below(0x40000), self.below(0x40000)])
             self.send(0x49, address & 255, address >> 8 & 255, self.below(64) << 2 | address >> 16)
             self.direction, self.operation = self.below(8), self.below(4)
-            self.pick([self.write, self.read, self.dots, self.line, self.rectangle, self.character])()
+            self.pick([self.write, self.read, self.dots, self.line, self.rectangle, self.arc, self.character])()
         self.lines.append(f'V 0 {LENGTH:X}')
 
     def others(self):
@@ -148,6 +169,20 @@ class Sequence:
         self.pattern()
         self.send(0x78, 0xFF, 0xFF)
         self.figs(0x40, 3, 1 + self.below(300), 1 + self.below(300), -1, self.below(0x4000))
+        self.send(0x6C)
+
+    def arc(self):
+        if self.below(2):
+            self.any_mask()
+        self.pattern()
+        radius = 1 + self.below(self.pick([10, 100, 2000]))
+        numbers = radius - 1, 2 * (radius - 1), -1
+        moves = zip(our_moves(*numbers), their_moves(radius - 1), range(radius))
+        alike = next((along for ours, theirs, along in moves if ours != theirs), radius)
+        dc = self.below(alike + 1)
+        if dc > 14:
+            self.send(0x78, 0xFF, 0xFF)
+        self.figs(0x20, dc, *numbers, self.pick([0, 0, 1, self.below(dc + 3)]))
         self.send(0x6C)
 
     def character(self):
