@@ -3,6 +3,7 @@ use Prim.Native.Nat.{ℕ}
 use mathlib.Core.Bool.{true, false}
 use lib.ListN.{replicate}
 use Rattle.dots.specs.declared.Operation.the-variants as operation
+use Rattle.dots.specs.declared.Wiring.the-variants as wiring
 use Rattle.registers.specs.declared.Mode.the-variants as mode
 use Rattle.registers.specs.declared.Command.the-variants as command
 use Rattle.registers.specs.declared.Work.the-variants as work
@@ -24,7 +25,7 @@ emptyBuffer = record { entries = replicate 16 0; count = 0 }
 abbrev pub noCommand : Progress
 noCommand = record { command = command.Nothing; next = 0; low = 0 }
 
--- "Fresh: all zero, write mode, except D = D2 = 8, D1 = DM = -1."
+-- "Fresh: all zero, write mode, except D = D2 = 8, D1 = DM = -1."; folded wiring (02, M-108: "Folded is as now")
 unfoldable pub freshSet : Registers
 freshSet =
     record {
@@ -39,4 +40,5 @@ freshSet =
       buffer = emptyBuffer;
       progress = noCommand;
       work = work.Idle;
+      board = record { wiring = wiring.Folded };
     }

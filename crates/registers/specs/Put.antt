@@ -4,6 +4,7 @@ use mathlib.Core.Bool.{Bool}
 use mathlib.Core.List.{List}
 use Rattle.dots.specs.declared.Cursor.{Cursor}
 use Rattle.dots.specs.declared.Operation.{Operation}
+use Rattle.registers.specs.declared.Board.{Board}
 use Rattle.registers.specs.declared.Buffer.{Buffer}
 use Rattle.registers.specs.declared.Drawing.{Drawing}
 use Rattle.registers.specs.declared.Mode.{Mode}
@@ -27,6 +28,7 @@ putCursor r x =
       buffer = r .buffer;
       progress = r .progress;
       work = r .work;
+      board = r .board;
     }
 
 abbrev pub putPitch : Registers → ℕ → Registers
@@ -43,6 +45,7 @@ putPitch r x =
       buffer = r .buffer;
       progress = r .progress;
       work = r .work;
+      board = r .board;
     }
 
 abbrev pub putDrawing : Registers → Drawing → Registers
@@ -59,6 +62,7 @@ putDrawing r x =
       buffer = r .buffer;
       progress = r .progress;
       work = r .work;
+      board = r .board;
     }
 
 abbrev pub putOp : Registers → Operation → Registers
@@ -75,6 +79,7 @@ putOp r x =
       buffer = r .buffer;
       progress = r .progress;
       work = r .work;
+      board = r .board;
     }
 
 abbrev pub putRam : Registers → List ℕ → Registers
@@ -91,6 +96,7 @@ putRam r x =
       buffer = r .buffer;
       progress = r .progress;
       work = r .work;
+      board = r .board;
     }
 
 abbrev pub putVideo : Registers → Video → Registers
@@ -107,6 +113,7 @@ putVideo r x =
       buffer = r .buffer;
       progress = r .progress;
       work = r .work;
+      board = r .board;
     }
 
 abbrev pub putPen : Registers → Pen → Registers
@@ -123,6 +130,7 @@ putPen r x =
       buffer = r .buffer;
       progress = r .progress;
       work = r .work;
+      board = r .board;
     }
 
 abbrev pub putMode : Registers → Mode → Registers
@@ -139,6 +147,7 @@ putMode r x =
       buffer = r .buffer;
       progress = r .progress;
       work = r .work;
+      board = r .board;
     }
 
 abbrev pub putBuffer : Registers → Buffer → Registers
@@ -155,6 +164,7 @@ putBuffer r x =
       buffer = x;
       progress = r .progress;
       work = r .work;
+      board = r .board;
     }
 
 abbrev pub putProgress : Registers → Progress → Registers
@@ -171,6 +181,7 @@ putProgress r x =
       buffer = r .buffer;
       progress = x;
       work = r .work;
+      board = r .board;
     }
 
 abbrev pub putWork : Registers → Work → Registers
@@ -187,6 +198,24 @@ putWork r x =
       buffer = r .buffer;
       progress = r .progress;
       work = x;
+      board = r .board;
+    }
+
+abbrev pub putBoard : Registers → Board → Registers
+putBoard r x =
+    record {
+      cursor = r .cursor;
+      pitch = r .pitch;
+      drawing = r .drawing;
+      op = r .op;
+      ram = r .ram;
+      video = r .video;
+      pen = r .pen;
+      mode = r .mode;
+      buffer = r .buffer;
+      progress = r .progress;
+      work = r .work;
+      board = x;
     }
 
 -- .. one of its bytes or bits for the screen

@@ -1,6 +1,7 @@
 // The register set, its fresh values, and the test that it is sound.
 use dots::Cursor;
 use dots::Operation;
+use dots::Wiring;
 ghost use mathlib.Core.Path.{_≡_};
 ghost use lib.ListN.{take};
 ghost use Rattle.registers.specs.Fresh.{freshSet};
@@ -155,6 +156,11 @@ pub struct Progress {
     pub low: u8,
 }
 
+// What the board is; no port changes it.
+pub struct Board {
+    pub wiring: Wiring,
+}
+
 pub struct Registers {
     pub cursor: Cursor,
     pub pitch: u8,
@@ -167,6 +173,7 @@ pub struct Registers {
     pub buffer: Buffer,
     pub progress: Progress,
     pub work: Work,
+    pub board: Board,
 }
 
 // The fresh set.
@@ -210,6 +217,9 @@ pub fn fresh() -> Registers
             low: 0,
         },
         work: Work::Idle,
+        board: Board {
+            wiring: Wiring::Folded,
+        },
     }
 }
 
