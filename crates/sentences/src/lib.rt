@@ -1,4 +1,5 @@
-// What a number of refusal means, in the words of document 01 and of 02's M-100 and M-108: the sentence that `listing`, `picture` and `replay` say.
+// What a number of refusal means, in the words of document 01 and of 02's M-100 and M-108: the sentence that `listing`, `picture` and
+// `replay` say.
 
 // What was refused, and why.
 fn say_meaning(fd: i32, number: u8) -> bool {
