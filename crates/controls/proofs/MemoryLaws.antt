@@ -19,7 +19,6 @@ use Rattle.orders.specs.declared.Memory.the-variants.{Word, Run}
 use Rattle.console.specs.declared.desk.Reply.{Reply}
 use Rattle.console.specs.declared.desk.Reply.the-variants.{Unknown, One}
 use Rattle.controls.specs.declared.memory.Worked.{Worked}
-use Rattle.controls.specs.Memory.{
   Put,
   outcome,
   put,
