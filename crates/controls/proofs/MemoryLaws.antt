@@ -19,17 +19,7 @@ use Rattle.orders.specs.declared.Memory.the-variants.{Word, Run}
 use Rattle.console.specs.declared.desk.Reply.{Reply}
 use Rattle.console.specs.declared.desk.Reply.the-variants.{Unknown, One}
 use Rattle.controls.specs.declared.memory.Worked.{Worked}
-  Put,
-  outcome,
-  put,
-  clearedFirst,
-  freshLetter,
-  freshDone,
-  wordDone,
-  runWithin,
-  runTold,
-  memoryDone,
-}
+use Rattle.controls.specs.Memory.{Put, outcome, put, clearedFirst, freshLetter, freshDone, wordDone, runWithin, runTold, memoryDone}
 
 pub clears : (mem : List ℕ) (n : ℕ) {k : ℕ} {o : List ℕ} → k ≡ usedOf n mem → o ≡ cleared (take k mem)
     → o ++ drop k mem ≡ clearedFirst n mem
