@@ -34,7 +34,7 @@ pub record Held (p h : ℕ) (s : State) : Type 0 where
   pub waits : Waiting (s .regs)
   pub pitch : s .regs .pitch ≡ p
   pub room : p * h ≤ length (s .mem)
-  pub lawful : lengthB (length (s .mem)) ≡ true
+  pub lawful : lengthB (s .regs .board .wiring) (length (s .mem)) ≡ true
 
 -- entries that change a shape and nothing else, with n units beside one for each entry; the controller waits again
 pub record Draws (p h : ℕ) (op : Operation) (on : Shape) (ink : Picture) (s : State) (l : List ℕ) (n : ℕ) : Type 0 where

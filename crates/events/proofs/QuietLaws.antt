@@ -24,4 +24,4 @@ module _ (s : State) where
 
   pub no-units-alter-nothing : eventDone s (unitsAsked 0) ≡ unmoved
   unfolding eventDone runsOf runDone
-  no-units-alter-nothing = still (soundB (s .regs)) (lengthB (length (s .mem)))
+  no-units-alter-nothing = still (soundB (s .regs)) (lengthB (s .regs .board .wiring) (length (s .mem)))

@@ -119,11 +119,11 @@ module _ (s : State) (l : List ℕ) where
   unfolding replayed
   way-unsound e = rw e
 
-  pub way-mislong : soundB (s .regs) ≡ true → lengthB (length (s .mem)) ≡ false → noneTaken 2 s ≡ replayed s l
+  pub way-mislong : soundB (s .regs) ≡ true → lengthB (s .regs .board .wiring) (length (s .mem)) ≡ false → noneTaken 2 s ≡ replayed s l
   unfolding replayed
   way-mislong e f = rw (e, f)
 
-  pub way-done : {o : Outcome} {n : ℕ} → soundB (s .regs) ≡ true → lengthB (length (s .mem)) ≡ true → n ≡ min mostReplayed (length l)
+  pub way-done : {o : Outcome} {n : ℕ} → soundB (s .regs) ≡ true → lengthB (s .regs .board .wiring) (length (s .mem)) ≡ true → n ≡ min mostReplayed (length l)
       → o ≡ allDone s (take n l) → o ≡ replayed s l
   unfolding replayed
   way-done e f h o = o ∙ rw (e, f) (ap (allDone s) (looked-at l h))

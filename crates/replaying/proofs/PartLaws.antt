@@ -67,22 +67,22 @@ module _ (n : ℕ) (right : lengthB n ≡ true) where
 
 -- ---- a list that is granted: neither 1 nor 2
 module _ (s : State) (l : List ℕ) where
-  pub granted-all : soundB (s .regs) ≡ true → lengthB (length (s .mem)) ≡ true → replayed s l ≡ allDone s (take mostReplayed l)
+  pub granted-all : soundB (s .regs) ≡ true → lengthB (s .regs .board .wiring) (length (s .mem)) ≡ true → replayed s l ≡ allDone s (take mostReplayed l)
   unfolding replayed
   granted-all e f = rw (e, f)
 
-  pub granted-is : soundB (s .regs) ≡ true → lengthB (length (s .mem)) ≡ true → length l ≤ mostReplayed → replayed s l ≡ allDone s l
+  pub granted-is : soundB (s .regs) ≡ true → lengthB (s .regs .board .wiring) (length (s .mem)) ≡ true → length l ≤ mostReplayed → replayed s l ≡ allDone s l
   granted-is e f h = granted-all e f ∙ ap (allDone s) (take-all mostReplayed l h)
 
-  granted-by : (x y : Bool) (k : List ℕ) → soundB (s .regs) ≡ x → lengthB (length (s .mem)) ≡ y → replayedBy x y s k .list .number ≡ 0
-      → (soundB (s .regs) ≡ true) × (lengthB (length (s .mem)) ≡ true)
+  granted-by : (x y : Bool) (k : List ℕ) → soundB (s .regs) ≡ x → lengthB (s .regs .board .wiring) (length (s .mem)) ≡ y → replayedBy x y s k .list .number ≡ 0
+      → (soundB (s .regs) ≡ true) × (lengthB (s .regs .board .wiring) (length (s .mem)) ≡ true)
   granted-by false y k e f z = let w : _≡_ {A = ℕ} 1 0 = z in absurd (omega arith)
   granted-by true false k e f z = let w : _≡_ {A = ℕ} 2 0 = z in absurd (omega arith)
   granted-by true true k e f z = (e, f)
 
-  granted : replayed s l .list .number ≡ 0 → (soundB (s .regs) ≡ true) × (lengthB (length (s .mem)) ≡ true)
+  granted : replayed s l .list .number ≡ 0 → (soundB (s .regs) ≡ true) × (lengthB (s .regs .board .wiring) (length (s .mem)) ≡ true)
   unfolding replayed
-  granted z = granted-by (soundB (s .regs)) (lengthB (length (s .mem))) _ refl refl z
+  granted z = granted-by (soundB (s .regs)) (lengthB (s .regs .board .wiring) (length (s .mem))) _ refl refl z
 
 pub record-goes-on : RecordGoesOn
 record-goes-on s a b sound typed words long few none =

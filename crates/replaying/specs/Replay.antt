@@ -87,4 +87,4 @@ abbrev pub mostReplayed : ℕ
 mostReplayed = 4194304
 
 unfoldable pub replayed : State → List ℕ → Outcome
-replayed s l = replayedBy (soundB (s .regs)) (lengthB (length (s .mem))) s (take mostReplayed l)
+replayed s l = replayedBy (soundB (s .regs)) (lengthB (s .regs .board .wiring) (length (s .mem))) s (take mostReplayed l)

@@ -60,4 +60,4 @@ abbrev pub mostListed : ℕ
 mostListed = 4294967295
 
 unfoldable pub listSent : State → List ℕ → ListOutcome
-listSent s l = listBy (soundB (s .regs)) (lengthB (length (s .mem))) s (take mostListed l)
+listSent s l = listBy (soundB (s .regs)) (lengthB (s .regs .board .wiring) (length (s .mem))) s (take mostListed l)
