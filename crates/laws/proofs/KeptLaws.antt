@@ -73,6 +73,10 @@ lawful r e t = lawful-of r (sound-parts r e) t
 pub lawful-sound : {board : Board} (r : Registers) → SoundSet board r → soundB r ≡ true
 lawful-sound r l = sound-whole r (sound-of r l)
 
+-- a set is of its own board
+pub own : {board : Board} (r : Registers) → SoundSet board r → SoundSet (r .board) r
+own r l = search
+
 pub lawful-typed : {board : Board} (r : Registers) → SoundSet board r → Typed r
 lawful-typed r l = search
 

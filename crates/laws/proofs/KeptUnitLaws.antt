@@ -15,7 +15,7 @@ use Rattle.registers.specs.Buffer.{oldest, popped}
 use Rattle.registers.specs.Put.{putBuffer}
 use Rattle.registers.specs.State.{State, state}
 use Rattle.units.specs.Unit.{fetched, fetchBy, unitBy, unitDone}
-use Rattle.units.specs.Run.{reasonOf, unitsDone, Outcome, runFrom, runBy, lengthB, runDone}
+use Rattle.units.specs.Run.{reasonOf, unitsDone, Outcome, runFrom, runBy, fittedB, runDone}
 use Rattle.laws.proofs.BranchLaws.{either}
 use Rattle.laws.proofs.KeptLaws.{Whole, buffer-kept}
 use Rattle.laws.proofs.KeptBufferLaws.{popped-queue}
@@ -75,4 +75,4 @@ module _ {board : Board} (n : ℕ) where
 
   pub run-kept : (budget : ℕ) (s : State) → Whole board n s → Whole board n (leftBy (runDone budget s))
   unfolding runDone
-  run-kept budget s w = run-by-kept (soundB (s .regs)) (lengthB (s .regs .board .wiring) (length (s .mem))) budget s w
+  run-kept budget s w = run-by-kept (soundB (s .regs)) (fittedB s) budget s w

@@ -21,14 +21,13 @@ fn settings_of(r: Registers) -> Settings
     ensures { λ p. ⌜ p ≡ settingsOf r ⌝ }
 {
     let board = r.board;
-    let wiring = board.wiring;
     let cursor = r.cursor;
     let drawing = r.drawing;
     let op = r.op;
     let ram = r.ram;
     let progress = r.progress;
     Settings {
-        wiring: wiring,
+        board: board,
         cursor: cursor,
         pitch: r.pitch,
         drawing: drawing,
@@ -48,6 +47,7 @@ fn with_settings(r: Registers, p: Settings) -> Registers
     let op = p.op;
     let ram = p.ram;
     let progress = p.progress;
+    let board = p.board;
     let none = processor::command::no_entries();
     let mut video = r.video;
     video.zoom = p.zoom;
@@ -60,6 +60,7 @@ fn with_settings(r: Registers, p: Settings) -> Registers
         video: video,
         buffer: none,
         progress: progress,
+        board: board,
         ..r
     }
 }

@@ -1,7 +1,7 @@
 // Entries in a row that only set registers.
 use dots::Cursor;
 use dots::Operation;
-use dots::Wiring;
+use registers::Board;
 use registers::Command;
 use registers::Drawing;
 use registers::Progress;
@@ -22,9 +22,9 @@ ghost use Rattle.settings.specs.Settings.{
   settleAll,
 };
 
-// The registers that such entries set, and the wiring, which they leave.
+// The registers that such entries set, and the board, which they leave.
 pub struct Settings {
-    pub wiring: Wiring,
+    pub board: Board,
     pub cursor: Cursor,
     pub pitch: u8,
     pub drawing: Drawing,
@@ -92,7 +92,8 @@ fn data_taken(from: Settings, t: Transfer, entries: &[u16], k: usize, mem: &mut 
     requires { ⌜ from .progress .command ≡ Wdat t ⌝ }
     ensures { λ q. ⌜ settled q (now (mem .exit)) ≡ dataAll t from (drop k (now (entries .entry))) (now (mem .entry)) ⌝ }
 {
-    let wiring = from.wiring;
+    let board = from.board;
+    let wiring = board.wiring;
     let op = from.op;
     let dir = from.drawing.dir;
     let pitch = from.pitch;
