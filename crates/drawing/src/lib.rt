@@ -53,7 +53,8 @@ pub fn draw_sheet(
         return refuse(1, 0, 0, r);
     }
     let board = r.board;
-    if !units::length_right(board.wiring, mem.len()) {
+    let wiring = board.wiring;
+    if !units::length_right(wiring, mem.len()) {
         return refuse(2, 0, 0, r);
     }
     if larger(p, h, mem.len()) {

@@ -172,7 +172,8 @@ pub fn send_all(r: Registers, entries: &[u16], mem: &mut [u16]) -> Listed
         };
     }
     let board = r.board;
-    if !units::length_right(board.wiring, mem.len()) {
+    let wiring = board.wiring;
+    if !units::length_right(wiring, mem.len()) {
         return Listed {
             number: 2,
             taken: 0,

@@ -92,7 +92,8 @@ pub fn replay(r: Registers, events: &[u64], mem: &mut [u16]) -> Replayed
         };
     }
     let board = r.board;
-    if !units::length_right(board.wiring, mem.len()) {
+    let wiring = board.wiring;
+    if !units::length_right(wiring, mem.len()) {
         return Replayed {
             number: 2,
             taken: 0,

@@ -213,7 +213,8 @@ pub fn run(r: Registers, mem: &mut [u16], budget: u32) -> Ran
         };
     }
     let board = r.board;
-    if !length_right(board.wiring, mem.len()) {
+    let wiring = board.wiring;
+    if !length_right(wiring, mem.len()) {
         return Ran {
             number: 2,
             count: 0,
