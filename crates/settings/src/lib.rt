@@ -122,9 +122,10 @@ fn data_taken(from: Settings, t: Transfer, entries: &[u16], k: usize, mem: &mut 
     p.cursor = c;
     p.progress.next = next;
     p.progress.low = low;
+    let count = at - k;
     Settled {
         settings: p,
-        count: at - k,
+        count: count,
     }
 }
 
