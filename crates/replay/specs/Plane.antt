@@ -3,10 +3,18 @@ use Prim.Native.Nat.{ℕ, _*_}
 use mathlib.Core.Bool.{cond}
 use lib.Dec.{ltb}
 use Rattle.dots.specs.declared.Wiring.{Wiring}
+use Rattle.registers.specs.declared.Registers.{Registers}
+use Rattle.registers.specs.Fresh.{freshSet}
+use Rattle.wirings.specs.Wired.{wiredAs}
 use Rattle.units.specs.Run.{lengthB}
 use Rattle.refusals.specs.Refusals.{planeB}
+use Rattle.replay.specs.declared.Plane.{Plane}
 
 -- "2 memory length wrong", which "depends on the wiring" (02, M-108), "11 P, H or P·H out of range", then 02's "23 a picture larger
 -- than the memory"; 0 for none
 unfoldable pub planeRefused : Wiring → ℕ → ℕ → ℕ → ℕ
 planeRefused w p h words = cond (lengthB w words) (cond (planeB p h) (cond (ltb words (p * h)) 23 0) 11) 2
+
+-- the registers before the first line: fresh, but for the wiring
+abbrev pub freshOn : Plane → Registers
+freshOn p = wiredAs (p .wiring) freshSet

@@ -10,10 +10,11 @@ use decimals::Number;
 use dots::Wiring;
 use events::Event;
 use log::Tally;
+use registers::Registers;
 use wirings::Named;
 ghost use mathlib.Core.Path.{_≡_};
 ghost use Prim.Native.Nat.{_<_};
-ghost use Rattle.replay.specs.Plane.{planeRefused};
+ghost use Rattle.replay.specs.Plane.{planeRefused, freshOn};
 
 mod log;
 
@@ -120,9 +121,17 @@ fn start() -> Told {
     }
 }
 
+// The registers before the first line.
+fn fresh_on(plane: Plane) -> Registers
+    ensures { λ r. ⌜ r ≡ freshOn plane ⌝ }
+{
+    let wiring = plane.wiring;
+    wirings::wired(registers::fresh(), wiring)
+}
+
 // A proved loop has to end, and nothing says that a record does: the turns are counted down from a number that no run uses up.
 fn turns(input: &mut [u8], line: &mut [u8], plane: Plane, mem: &mut [u16], room: &mut [u8]) {
-    let mut regs = wirings::wired(registers::fresh(), plane.wiring);
+    let mut regs = fresh_on(plane);
     let mut told = start();
     let mut left = u64::MAX;
     while 0 < left {
@@ -182,7 +191,8 @@ fn number_at(i: usize) -> Number {
 
 // The plane and the memory are there, or are refused.
 fn replay_on(plane: Plane, words: u32) {
-    let n = plane_refused(plane.wiring, plane.across, plane.down, words);
+    let wiring = plane.wiring;
+    let n = plane_refused(wiring, plane.across, plane.down, words);
     if n != 0 {
         return log::refused_plane(n);
     }

@@ -12,11 +12,8 @@ Inv-loop input₀ line₀ plane mem₀ room₀ regs₀ told₀ left₀ input lin
 abbrev μ-loop : tie.MeasureT-loop
 μ-loop input₀ line₀ plane mem₀ room₀ regs₀ told₀ left₀ input line mem room regs told left = left
 
-fresh-requires : tie.Need-fresh-requires Inv-loop μ-loop
-fresh-requires c κs = search needs
-
-wired-requires : tie.Need-wired-requires Inv-loop μ-loop
-wired-requires c κs = search needs
+fresh-on-requires : tie.Need-fresh-on-requires Inv-loop μ-loop
+fresh-on-requires c κs = search needs
 
 start-requires : tie.Need-start-requires Inv-loop μ-loop
 start-requires c κs = search needs
@@ -82,8 +79,7 @@ turns-spec =
     (tie.spec
     Inv-loop
     μ-loop
-    fresh-requires
-    wired-requires
+    fresh-on-requires
     start-requires
     loop-holds
     next-requires
