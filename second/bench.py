@@ -25,10 +25,6 @@ LARGEST = 0xFFFFFFFF
 MOST_GLYPH_BYTES = 4096
 MOST_SHEET_BYTES = 17 * 512
 
-# "In `F`, `J` the first field is the request's number, written as it is
-# printed".
-WIRINGS = "108"
-
 DIGITS = re.compile("[0-9A-F]+")
 BYTES = re.compile("(?:[0-9A-F][0-9A-F])+")
 
@@ -53,6 +49,13 @@ def some_bytes(text):
     if BYTES.fullmatch(text) is None:
         raise Malformed
     return bytes.fromhex(text)
+
+
+def wirings_alone(request):
+    # "In `F`, `J` the first field is the request's number, written as it is
+    # printed". The other requests that have a field have not landed.
+    if request != "108":
+        raise Malformed
 
 
 def two_digits(values):
@@ -123,17 +126,14 @@ class Bench:
         return "O 0"
 
     def show_field(self, request):
-        # "`F 108` | the wiring": "0 folded, 1 open". The other requests that
-        # have a field have not landed.
-        if request != WIRINGS:
-            raise Malformed
+        # "`F 108` | the wiring": "0 folded, 1 open"
+        wirings_alone(request)
         return "F 108 %X" % self.chip.wiring
 
     def put_field(self, request, value):
         # "`J 108 v` | the wiring becomes v (0 or 1); the memory stays, of
         # whatever length"
-        if request != WIRINGS:
-            raise Malformed
+        wirings_alone(request)
         self.chip.wiring = number(value, 1)
         return "J 0"
 
