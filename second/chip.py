@@ -3,9 +3,9 @@
 This is a part of the SECOND PROGRAM. It was written from the paper alone
 (document 01, requests M-100 and M-108 of document 02, NEC's sheet 002, the
 readings) and never from the proved program, so that the two can be held
-against each other.
-It is plain and slow on purpose. Above or in each function stands the sentence
-of the paper that it puts into Python; names are 01's words.
+against each other. It is plain and slow on purpose. Above or in each function
+stands the sentence of the paper that it puts into Python; names are 01's
+words.
 
 A `Chip` holds the register set and the display memory. The host uses
 `command_port`, `parameter_port`, `read_byte`, `status` and `post_pen`;
