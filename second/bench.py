@@ -53,8 +53,9 @@ def some_bytes(text):
 
 def wirings_alone(request):
     # "In `F`, `J` the first field is the request's number, written as it is
-    # printed". The other requests that have a field have not landed.
-    if request != "108":
+    # printed": the digits 108, a number like every other field. The other
+    # requests that have a field have not landed.
+    if number(request) != 0x108:
         raise Malformed
 
 
