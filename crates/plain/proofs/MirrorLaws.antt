@@ -9,6 +9,7 @@ use Rattle.dots.proofs.OperationLaws.{operation-below, operation-back, operatio
 use Rattle.registers.specs.declared.Registers.{Registers}
 use Rattle.registers.proofs.BoolLaws.{and-left, and-right}
 use Rattle.plain.specs.declared.PlainRegisters.{PlainRegisters}
+use Rattle.plain.specs.Numbers.{wirings}
 use Rattle.plain.specs.Form.{commandFormB, workFormB, bitsB, plainFormB}
 use Rattle.plain.specs.Mirror.{fromPlain, toPlain}
 use Rattle.plain.proofs.NumberLaws.{bit-fits, mode-back, mode-fits, mode-there, wiring-fits}
@@ -58,7 +59,7 @@ to-from p s =
     let a = bitsB p in
     let b = ltb (p .op) 4 in
     let c = ltb (p .mode) 2 in
-    let w = ltb (p .board .wiring) 2 in
+    let w = ltb (p .board .wiring) wirings in
     let d = commandFormB (p .progress .command) (p .progress .transfer) in
     let e = workFormB (p .work) in
     let s₄ = and-left (a && b && c && w && d) e s in

@@ -20,7 +20,7 @@ use Rattle.registers.specs.declared.Command.the-variants.{Nothing, Reset, Vsync
 use Rattle.registers.specs.declared.Command.the-variants.{Gchrd, Curd, Lprd, Wdat, Rdat, Unknown}
 use Rattle.registers.proofs.Command as C
 use Rattle.registers.proofs.BoolLaws.{false-true}
-use Rattle.plain.specs.Numbers.{bitOf, bitNumber, modeOf, modeNumber, wiringOf, wiringNumber, transferOf, transferNumber}
+use Rattle.plain.specs.Numbers.{wirings, bitOf, bitNumber, modeOf, modeNumber, wiringOf, wiringNumber, transferOf, transferNumber}
 use Rattle.plain.specs.Numbers.{commandOf, commandNumber, commandTransfer}
 use Rattle.plain.specs.Form.{commandFormB}
 
@@ -95,7 +95,7 @@ pub mode-fits : (m : Mode) → ltb (modeNumber m) 2 ≡ true
 mode-fits mode.Write = refl
 mode-fits mode.Read = refl
 
-pub wiring-fits : (w : Wiring) → ltb (wiringNumber w) 2 ≡ true
+pub wiring-fits : (w : Wiring) → ltb (wiringNumber w) wirings ≡ true
 wiring-fits wiring.Folded = refl
 wiring-fits wiring.Open = refl
 
@@ -144,7 +144,7 @@ bit-there n e = each (λ k. bitNumber (bitOf k) ≡ k) 2 ((tt, refl), refl) n (l
 pub mode-there : (n : ℕ) → ltb n 2 ≡ true → modeNumber (modeOf n) ≡ n
 mode-there n e = each (λ k. modeNumber (modeOf k) ≡ k) 2 ((tt, refl), refl) n (ltb-true n 2 e)
 
-pub wiring-there : (n : ℕ) → ltb n 2 ≡ true → wiringNumber (wiringOf n) ≡ n
+pub wiring-there : (n : ℕ) → ltb n wirings ≡ true → wiringNumber (wiringOf n) ≡ n
 wiring-there n e = each (λ k. wiringNumber (wiringOf k) ≡ k) 2 ((tt, refl), refl) n (ltb-true n 2 e)
 
 pub transfer-there : (n : ℕ) → ltb n 3 ≡ true → transferNumber (transferOf n) ≡ n

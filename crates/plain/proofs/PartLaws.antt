@@ -20,6 +20,7 @@ use Rattle.plain.specs.declared.PlainPen.{PlainPen}
 use Rattle.plain.specs.declared.PlainProgress.{PlainProgress}
 use Rattle.plain.specs.declared.PlainBoard.{PlainBoard}
 use Rattle.plain.specs.declared.PlainWork.{PlainWork}
+use Rattle.plain.specs.Numbers.{wirings}
 use Rattle.plain.specs.Parts.{drawingOf, drawingPlain, videoOf, videoPlain, penOf, penPlain, progressOf, progressPlain, workOf}
 use Rattle.plain.specs.Parts.{workPlain, boardOf, boardPlain}
 use Rattle.plain.specs.Form.{commandFormB, noFigureB, noArcB, noCharacterB, noReadingB, workFormB}
@@ -80,7 +81,7 @@ progress-there p e = λ i.
       low = p .low;
     }
 
-pub board-there : (p : PlainBoard) → ltb (p .wiring) 2 ≡ true → boardPlain (boardOf p) ≡ p
+pub board-there : (p : PlainBoard) → ltb (p .wiring) wirings ≡ true → boardPlain (boardOf p) ≡ p
 board-there p e = λ i. record { wiring = wiring-there (p .wiring) e i }
 
 -- ---- what is in progress: the fields that a kind has no use for are 0
