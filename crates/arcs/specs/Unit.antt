@@ -44,5 +44,5 @@ arcMoved k m r =
 unfoldable pub arcUnit : ℕ → Running → State → State
 arcUnit k a s =
     state (arcMoved k (meets (s .regs .drawing) (s .regs .pitch) k (moving (s .regs) a)) (s .regs))
-    (cycled (s .regs .op) (patternAt (s .regs .ram) (s .regs .drawing .dm + k))
+    (cycled (s .regs .board .wiring) (s .regs .op) (patternAt (s .regs .ram) (s .regs .drawing .dm + k))
     (meets (s .regs .drawing) (s .regs .pitch) k (moving (s .regs) a) .cursor) (s .mem))

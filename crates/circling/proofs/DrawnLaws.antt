@@ -6,6 +6,7 @@ use mathlib.Core.List.{List}
 use Prim.Native.Nat.{ℕ, suc, _+_, _-_, _*_, _%_, _≤_, _<_}
 use native.Mathlib.Omega.{arith}
 use lib.ListN.{length}
+use Rattle.dots.specs.declared.Wiring.{Wiring}
 use Rattle.dots.specs.declared.Operation.{Operation}
 use Rattle.dots.specs.declared.Cursor.{Cursor}
 use Rattle.dots.specs.Bit.{bit}
@@ -29,7 +30,7 @@ use Rattle.circling.proofs.AxisLaws.{same-axis, same-diagonal}
 
 -- ---- dots passed over
 -- a walk from neighbour to neighbour whose first m dots make no cycle: dot i has the pattern t i, and no dot comes twice
-passed-drawn : (op : Operation) (p h : ℕ) → Sized p h → (mem : List ℕ) → p * h ≤ length mem
+passed-drawn : (wiring : Wiring) (op : Operation) (p h : ℕ) → Sized p h → (mem : List ℕ) → p * h ≤ length mem
     → (m n : ℕ) (t dirs : ℕ → ℕ) (c : Cursor) → ((i k : ℕ) → i ≤ n → bit (k % 16) (t i) ≡ 1)
     → (X Y : ℕ → ℕ) → c ≡ cursorAt (address p (X 0) (Y 0))
     → ((i : ℕ) → i ≤ n → InPlane p h (X i) (Y i))
@@ -37,9 +38,9 @@ passed-drawn : (op : Operation) (p h : ℕ) → Sized p h → (mem : List ℕ) �
     → ((i j : ℕ) → m ≤ i → i < j → j ≤ n → X i ≡ X j → Y i ≡ Y j → ⊥)
     → (on : Shape) → ((x y : ℕ) → on x y ≡ true → (i : ℕ) × (m ≤ i) × (i ≤ n) × (x ≡ X i) × (y ≡ Y i))
     → ((i : ℕ) → m ≤ i → i ≤ n → on (X i) (Y i) ≡ true)
-    → Drawn p h op on solid mem (cycles op (λ j. t (m + j)) (λ j. walk dirs p c (m + j)) (suc n - m) mem)
-passed-drawn op p h sized mem room m n t dirs c ones X Y start plane next once on reached kept =
-    drawn op (λ j. t (m + j)) (λ j. X (m + j)) (λ j. Y (m + j)) (λ j. walk dirs p c (m + j)) p h mem room (suc n - m)
+    → Drawn p h op on solid mem (cycles wiring op (λ j. t (m + j)) (λ j. walk dirs p c (m + j)) (suc n - m) mem)
+passed-drawn wiring op p h sized mem room m n t dirs c ones X Y start plane next once on reached kept =
+    drawn wiring op (λ j. t (m + j)) (λ j. X (m + j)) (λ j. Y (m + j)) (λ j. walk dirs p c (m + j)) p h mem room (suc n - m)
     (λ j k. ap (λ (s : Cursor). walk dirs p s (m + j)) start
     ∙ walks p h sized dirs X Y (m + j) (λ i l. plane i (omega arith)) (λ i l. next i (omega arith)))
     (λ j k. plane (m + j) (omega arith)) (λ i j l k. once (m + i) (m + j) (omega arith) (omega arith) (omega arith))
@@ -138,13 +139,13 @@ module _ (cx cy r : ℕ) (pos : 0 < r) (most : r ≤ 2000) (left : r ≤ cx) (to
     begins dir = record { running = circleRunning r; cursor = cursorAt (address p (endX cx r dir) (endY cy r dir)) }
 
     -- the arc's cycles change its dots
-    pub arc-drawn : Sized p h → (op : Operation) (mem : List ℕ) → p * h ≤ length mem → (dir : ℕ) → dir < 8
+    pub arc-drawn : Sized p h → (wiring : Wiring) (op : Operation) (mem : List ℕ) → p * h ≤ length mem → (dir : ℕ) → dir < 8
         → (t : ℕ → ℕ) → ((i k : ℕ) → bit (k % 16) (t i) ≡ 1)
         → Drawn p h op (arcOn cx cy r dir) solid mem
-        (cycles op (λ j. t (arcDm dir + j)) (λ j. passed dir p (begins dir) (arcDm dir + j) .cursor) (suc (arcDc r dir) - arcDm dir) mem)
-    arc-drawn sized op mem room dir b t ones =
+        (cycles wiring op (λ j. t (arcDm dir + j)) (λ j. passed dir p (begins dir) (arcDm dir + j) .cursor) (suc (arcDc r dir) - arcDm dir) mem)
+    arc-drawn sized wiring op mem room dir b t ones =
         rw (passed-walk dir p (begins dir) (arcDm dir))
-        (passed-drawn op p h sized mem room (arcDm dir) (arcDc r dir) t (turning dir p (begins dir)) (begins dir .cursor)
+        (passed-drawn wiring op p h sized mem room (arcDm dir) (arcDc r dir) t (turning dir p (begins dir)) (begins dir .cursor)
         (λ i k l. ones i k) (arcX cx r dir) (arcY cy r dir)
         (ap₂ (λ (u v : ℕ). cursorAt (address p u v)) (sym (arc-starts cx cy r pos dir b .0)) (sym (arc-starts cx cy r pos dir b .1)))
         (λ i k. arc-plane dir i (at-most r dir i k))

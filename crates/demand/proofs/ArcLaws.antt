@@ -39,7 +39,7 @@ module _ (p h : ℕ) (sized : Sized p h) (s : State) (held : Held p h s) (op : O
   module _ (figs : List ℕ) (f : Drawing) (i : ℕ) (on : Shape) (sets : Waiting first → Acts first figs (drawingSet first f i))
       (arc : f .kind ≡ arcKind) (few : arcCyclesOf f < 65536)
       (geometry : (t : ℕ → ℕ) → ((j k : ℕ) → bit (k % 16) (t j) ≡ 1)
-      → Drawn p h op on solid (s .mem) (cycles op (λ j. t (f .dm + j))
+      → Drawn p h op on solid (s .mem) (cycles (s .regs .board .wiring) op (λ j. t (f .dm + j))
       (λ j. passed (f .dir) p (record { running = copied f; cursor = cursorAt (address p (a .x) (a .y)) }) (f .dm + j) .cursor)
       (arcCyclesOf f) (s .mem))) where
     abbrev ready : Registers
@@ -56,7 +56,7 @@ module _ (p h : ℕ) (sized : Sized p h) (s : State) (held : Held p h s) (op : O
 
     abbrev made : Operation → ℕ → ℕ → List ℕ
     made o k n =
-        cycles o (λ j. ones (f .dm + j))
+        cycles (s .regs .board .wiring) o (λ j. ones (f .dm + j))
         (λ j. passed (f .dir) k (record { running = copied f; cursor = cursorAt (address p (a .x) (a .y)) }) (f .dm + j) .cursor) n (s .mem)
 
     changes : (n : ℕ) → n ≡ arcCyclesOf f → Drawn p h op on solid (s .mem) (made (s .regs .op) (s .regs .pitch) n)
@@ -74,6 +74,7 @@ module _ (p h : ℕ) (sized : Sized p h) (s : State) (held : Held p h s) (op : O
           waits = none .waits;
           pitch = held .pitch;
           keeps = is;
+          board = refl;
           drawn = changes 0 e;
         }
     by-count (suc n) e =
@@ -84,6 +85,7 @@ module _ (p h : ℕ) (sized : Sized p h) (s : State) (held : Held p h s) (op : O
           waits = arc-waits (tail .waits) arc n e (s .mem);
           pitch = held .pitch;
           keeps = is;
+          board = refl;
           drawn = changes (suc n) e;
         }
 

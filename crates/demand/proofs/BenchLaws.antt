@@ -43,8 +43,8 @@ long : length zeros ≡ 16384
 unfolding zeros
 long = length-replicate {A = ℕ} 16384 0
 
-lawful : lengthB (length zeros) ≡ true
-unfolding lengthB
+lawful : lengthB (freshSet .board .wiring) (length zeros) ≡ true
+unfolding freshSet lengthB
 lawful = rw long refl
 
 pub bench-shown : Shown 40 400 [] (figuresOf sheet 40 400 []) (take 13 (listing ++ 7 ∷ 7 ∷ [])) (state freshSet zeros)

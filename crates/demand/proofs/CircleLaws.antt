@@ -70,8 +70,8 @@ module _ (p h : ℕ) (sized : Sized p h) (op : Operation) (c : Point) (r : ℕ) 
         draws-as (λ x y. refl) (sym cycles-are)
         (arc-law p h sized s held op is (arcStart c r dir) (starts dir b) (arcFigs dir (arcDc r dir) r (arcDm dir)) (arcDrawing r dir) 11
         (arcOn (c .x) (c .y) r dir) sets refl (omega (arith, cycles-are, dc-lt dir))
-        (λ t ones. rw (← cycles-are) (arc-drawn (c .x) (c .y) r some few left top p h right low sized op (s .mem)
-        (held .room) dir b t ones)))
+        (λ t ones. rw (← cycles-are) (arc-drawn (c .x) (c .y) r some few left top p h right low sized
+        (s .regs .board .wiring) op (s .mem) (held .room) dir b t ones)))
 
   -- n arcs from dir on: their dots, and how many
   abbrev fromOn : ℕ → ℕ → Shape

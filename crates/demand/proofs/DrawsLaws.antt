@@ -1,7 +1,7 @@
 -- A figure that FIGD draws, from CURS to its last dot, the operation being set: if the walk of its registers changes a shape of the
 -- plane once, as geometry shows of dots, lines and rectangles and circling of arcs, then its entries are accepted and change just that
 -- shape. A dot is the first case. Shapes that have no dot in common, drawn one after the other, are one shape.
-use mathlib.Core.Path.{_≡_, refl, sym, subst}
+use mathlib.Core.Path.{_≡_, refl, sym, subst, _∙_}
 use mathlib.Core.Bool.{true, false}
 use mathlib.Core.List.{List, [], _∷_, _++_}
 use Prim.Native.Nat.{ℕ, suc, _+_, _*_, _%_, _≤_, _<_}
@@ -22,7 +22,7 @@ use Rattle.registers.specs.declared.Registers.{Registers}
 use Rattle.registers.specs.Size.{dotsOf}
 use Rattle.registers.specs.State.{State}
 use Rattle.figures.specs.Figure.{patternAt}
-use Rattle.units.specs.Run.{lengthB}
+use Rattle.units.specs.Run.{fittedB}
 use Rattle.sending.proofs.WaitLaws.{Waiting}
 use Rattle.sending.proofs.SendLaws.{Leads, leads-then, leads-nothing, Acts}
 use Rattle.sending.proofs.GroupLaws.{drawingSet, acts-figs}
@@ -34,7 +34,7 @@ pub record Held (p h : ℕ) (s : State) : Type 0 where
   pub waits : Waiting (s .regs)
   pub pitch : s .regs .pitch ≡ p
   pub room : p * h ≤ length (s .mem)
-  pub lawful : lengthB (length (s .mem)) ≡ true
+  pub lawful : fittedB s ≡ true
 
 -- entries that change a shape and nothing else, with n units beside one for each entry; the controller waits again
 pub record Draws (p h : ℕ) (op : Operation) (on : Shape) (ink : Picture) (s : State) (l : List ℕ) (n : ℕ) : Type 0 where
@@ -43,6 +43,7 @@ pub record Draws (p h : ℕ) (op : Operation) (on : Shape) (ink : Picture) (s : 
   pub waits : Waiting (after .regs)
   pub pitch : after .regs .pitch ≡ p
   pub keeps : after .regs .op ≡ op
+  pub board : after .regs .board ≡ s .regs .board
   pub drawn : Drawn p h op on ink (s .mem) (after .mem)
 
 pub leads-count : {s s′ : State} {l : List ℕ} {m n : ℕ} → Leads s l m s′ → m ≡ n → Leads s l n s′
@@ -59,6 +60,7 @@ draws-as same e d =
       waits = d .waits;
       pitch = d .pitch;
       keeps = d .keeps;
+      board = d .board;
       drawn = drawn-as same (d .drawn);
     }
 
@@ -73,6 +75,7 @@ draws-nothing s held is =
       waits = held .waits;
       pitch = held .pitch;
       keeps = is;
+      board = refl;
       drawn = record { long = refl; dots = λ x y i. refl; words = λ j k. refl };
     }
 
@@ -87,6 +90,7 @@ draws-both apart d e =
       waits = e .waits;
       pitch = e .pitch;
       keeps = e .keeps;
+      board = e .board ∙ d .board;
       drawn = drawn-both apart (d .drawn) (e .drawn);
     }
 
@@ -98,7 +102,7 @@ draws-held held d =
       waits = d .waits;
       pitch = d .pitch;
       room = rw (d .drawn .long) (held .room);
-      lawful = rw (d .drawn .long) (held .lawful);
+      lawful = rw (d .drawn .long, d .board) (held .lawful);
     }
 
 module _ (p h : ℕ) (sized : Sized p h) (s : State) (held : Held p h s) (op : Operation) (is : s .regs .op ≡ op) (a : Point)
@@ -111,7 +115,7 @@ module _ (p h : ℕ) (sized : Sized p h) (s : State) (held : Held p h s) (op : O
   pub figd-law : (figs : List ℕ) (f : Drawing) (i n : ℕ) (on : Shape) → (Waiting base → Acts base figs (drawingSet base f i))
       → suc n ≡ dotsOf f → n < 65536
       → ((t : ℕ → ℕ) → ((j k : ℕ) → bit (k % 16) (t j) ≡ 1)
-      → Drawn p h op on solid (s .mem) (cycles op t (walk (stepAt f) p (cursorAt (address p (a .x) (a .y)))) (suc n) (s .mem)))
+      → Drawn p h op on solid (s .mem) (cycles (s .regs .board .wiring) op t (walk (stepAt f) p (cursorAt (address p (a .x) (a .y)))) (suc n) (s .mem)))
       → Draws p h op on solid s (headEntries p a ++ figs ++ 0x16C ∷ []) (suc n)
   figd-law figs f i n on sets all few geometry =
       record {
@@ -122,6 +126,7 @@ module _ (p h : ℕ) (sized : Sized p h) (s : State) (held : Held p h s) (op : O
         waits = figd-waits (tail .waits) n all (s .mem);
         pitch = held .pitch;
         keeps = is;
+        board = refl;
         drawn = subst (λ (o : Operation). Drawn p h op on solid (s .mem) (made o (s .regs .pitch))) (sym is)
             (subst (λ (k : ℕ). Drawn p h op on solid (s .mem) (made op k)) (sym (held .pitch))
             (geometry ones (λ j k. pattern-ones (s .regs .ram) (held .waits .lawful .ram) j k)));
@@ -137,7 +142,7 @@ module _ (p h : ℕ) (sized : Sized p h) (s : State) (held : Held p h s) (op : O
       ones = patternAt (set (set (s .regs .ram) 8 255) 9 255)
 
       made : Operation → ℕ → List ℕ
-      made o k = cycles o ones (walk (stepAt f) k (cursorAt (address p (a .x) (a .y)))) (suc n) (s .mem)
+      made o k = cycles (s .regs .board .wiring) o ones (walk (stepAt f) k (cursorAt (address p (a .x) (a .y)))) (suc n) (s .mem)
 
   pub dot-law : Draws p h op (dotOn (a .x) (a .y)) solid s (dotEntries p a) 1
   unfolding dotEntries dotsOf
@@ -145,4 +150,5 @@ module _ (p h : ℕ) (sized : Sized p h) (s : State) (held : Held p h s) (op : O
       figd-law (0x14C ∷ 0x02 ∷ [])
       (record { kind = 0; dir = 2; gd = s .regs .drawing .gd; dc = 0; d = 8; d2 = 8; d1 = 16383; dm = 16383 }) 1 0 (dotOn (a .x) (a .y))
       (λ v. acts-figs v 2 0 2 (omega arith) refl refl) refl (omega arith)
-      (λ t ones. dot-drawn op p h sized (s .mem) (held .room) t _ (cursorAt (address p (a .x) (a .y))) (ones 0) (a .x) (a .y) inside refl)
+      (λ t ones. dot-drawn (s .regs .board .wiring) op p h sized (s .mem) (held .room) t _ (cursorAt (address p (a .x) (a .y))) (ones 0)
+      (a .x) (a .y) inside refl)

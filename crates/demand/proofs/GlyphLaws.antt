@@ -97,14 +97,14 @@ module _ (p h : ℕ) (sized : Sized p h) (s : State) (held : Held p h s) (op : O
   -- ---- GCHRD's dots, by operation, width, factor, pitch and count
   abbrev made : Operation → ℕ → ℕ → ℕ → ℕ → List ℕ
   made o w k pitch count =
-      cycles o (λ j. characterPattern ram k (j / w) (j % w)) (λ j. spot 2 4 pitch first (j / w) (j % w)) count (s .mem)
+      cycles (s .regs .board .wiring) o (λ j. characterPattern ram k (j / w) (j % w)) (λ j. spot 2 4 pitch first (j / w) (j % w)) count (s .mem)
 
   is-glyph : Drawn p h op (squareOn (a .x) (a .y) g) (glyphInk t n (a .x) (a .y) g) (s .mem) (made op (8 * g) g p (8 * g * (8 * g)))
   unfolding characterPattern
   is-glyph =
       glyph-drawn (a .x) (a .y) g pos t n (λ j. getD ram j 0)
       (λ j k. ram-at (s .regs .ram) (glyphRows t n) (held .waits .lawful .ram) refl j k ∙ row-at t n j k)
-      op p h sized (s .mem) (held .room) rx ry _ first refl (λ i k l. spread _ k (bit-lt _ _))
+      (s .regs .board .wiring) op p h sized (s .mem) (held .room) rx ry _ first refl (λ i k l. spread _ k (bit-lt _ _))
 
   factor-is : factorOf (g - 1) ≡ g
   unfolding factorOf
@@ -144,5 +144,6 @@ module _ (p h : ℕ) (sized : Sized p h) (s : State) (held : Held p h s) (op : O
     waits = gchrd-waits (acts .waits) some last all (s .mem);
     pitch = held .pitch;
     keeps = is;
+    board = refl;
     drawn = subst (Drawn p h op (squareOn (a .x) (a .y) g) (glyphInk t n (a .x) (a .y) g) (s .mem)) (sym leaves) is-glyph;
   }

@@ -70,7 +70,7 @@ module _ (p h : ℕ) (sized : Sized p h) (s : State) (held : Held p h s) (op : O
   line-law =
       figd-law p h sized s held op is a ia figs (lineDrawing (k .dir) (k .major) (k .minor)) 9 (k .major)
       (lineOn (a .x) (a .y) (b .x) (b .y)) sets (omega arith) (omega (arith, n-lt))
-      (λ t ones. line-drawn (v .octant) op p h sized (s .mem) (held .room) ia ib (k .dir)
+      (λ t ones. line-drawn (v .octant) (s .regs .board .wiring) op p h sized (s .mem) (held .room) ia ib (k .dir)
       (v .dir) t _ (cursorAt (address p (a .x) (a .y))) refl (λ i j l. ones i j)
       (λ i l. line-steps (lineDrawing (k .dir) (k .major) (k .minor)) (k .major) (k .minor) refl (omega (arith, n-lt)) refl
       (omega (arith, n-lt)) small i))

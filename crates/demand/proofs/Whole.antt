@@ -36,7 +36,8 @@ taken-out o e n l h = ap (take n) (placed-is o 0 e (omega arith)) ∙ take-at e 
 
 -- figures in the plane, from any controller that waits and any memory that holds the plane
 module _ (p h : ℕ) (sized : Sized p h) (table : List ℕ) (bytes : Bytes table) (l : List Record) (inside : AllInside p h l)
-    (r : Registers) (v : Waiting r) (mem : List ℕ) (lawful : lengthB (length mem) ≡ true) (room : p * h ≤ length mem) where
+    (r : Registers) (v : Waiting r) (mem : List ℕ) (lawful : lengthB (r .board .wiring) (length mem) ≡ true)
+    (room : p * h ≤ length mem) where
   pub shown : Shown p h table l (translation table p l) (state r mem)
   unfolding translation
   shown =

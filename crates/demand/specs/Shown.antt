@@ -40,13 +40,13 @@ abbrev pub Bytes : List ℕ → Type 0
 Bytes table = (j : ℕ) → getD table j 0 < 256
 
 -- Take a sheet, P and H, glyph bytes and an output for which the translator answers 0; a register set that is sound, in write mode, with
--- its buffer empty and nothing being drawn, whatever else it holds (`Typed` is what its types say); and a memory of a lawful
--- length that the picture fits, whatever it holds. Then the entries that the translator wrote draw the sheet's figures.
+-- its buffer empty and nothing being drawn, whatever else it holds (`Typed` is what its types say); and a memory of a length
+-- that is lawful for its wiring (02, M-108) and that the picture fits, whatever it holds. Then the entries that the translator wrote draw the sheet's figures.
 abbrev pub PictureIsRight : Type 0
 PictureIsRight =
     (sheet : List ℕ) (p h : ℕ) (table out written : List ℕ) (a : Answer)
     → outcome a written ≡ translateDef sheet p h table out → a .number ≡ 0 → Bytes table
-    → (r : Registers) (mem : List ℕ) → Ready r → Typed r → lengthB (length mem) ≡ true → p * h ≤ length mem
+    → (r : Registers) (mem : List ℕ) → Ready r → Typed r → lengthB (r .board .wiring) (length mem) ≡ true → p * h ≤ length mem
     → Shown p h table (figuresOf sheet p h table) (take (a .first) written) (state r mem)
 
 -- The same from 01's words on: take a sheet that 01 accepts for P, H and the glyph bytes (`Lawful`), an output long enough for its
@@ -55,7 +55,7 @@ abbrev pub LawfulSheetIsShown : Type 0
 LawfulSheetIsShown =
     (sheet : List ℕ) (p h : ℕ) (table out : List ℕ) → Lawful sheet p h table
     → length (translation table p (figuresOf sheet p h table)) ≤ length out → Bytes table
-    → (r : Registers) (mem : List ℕ) → Ready r → Typed r → lengthB (length mem) ≡ true → p * h ≤ length mem
+    → (r : Registers) (mem : List ℕ) → Ready r → Typed r → lengthB (r .board .wiring) (length mem) ≡ true → p * h ≤ length mem
     → (translateDef sheet p h table out .answer .number ≡ 0)
     × Shown p h table (figuresOf sheet p h table)
     (take (translateDef sheet p h table out .answer .first) (translateDef sheet p h table out .out)) (state r mem)

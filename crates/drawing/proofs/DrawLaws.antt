@@ -33,11 +33,11 @@ module _ (sheet : List ℕ) (p h : ℕ) (glyphs : List ℕ) (r : Registers) (ent
   way-unsound s e = rw (e, s)
 
   module _ (s : soundB r ≡ true) where
-    pub way-mislong : {q : Drawn} → lengthB (length mem) ≡ false → q ≡ refusal 2 0 0 r → outcome q entries mem ≡ all
+    pub way-mislong : {q : Drawn} → lengthB (r .board .wiring) (length mem) ≡ false → q ≡ refusal 2 0 0 r → outcome q entries mem ≡ all
     unfolding sheetDrawn
     way-mislong l e = rw (e, s, l)
 
-    module _ (l : lengthB (length mem) ≡ true) where
+    module _ (l : lengthB (r .board .wiring) (length mem) ≡ true) where
       pub way-larger : {q : Drawn} → largerB p h (length mem) ≡ true → q ≡ refusal 23 0 0 r → outcome q entries mem ≡ all
       unfolding sheetDrawn
       way-larger k e = rw (e, s, l, k)

@@ -14,7 +14,7 @@ use Rattle.registers.specs.declared.Registers.{Registers}
 use Rattle.registers.specs.Sound.{soundB}
 use Rattle.registers.specs.State.{State, state}
 use Rattle.registers.specs.Typed.{Words}
-use Rattle.units.specs.Run.{lengthB}
+use Rattle.units.specs.Run.{lengthB, fittedB}
 use Rattle.ports.specs.Port.{turnedBack}
 use Rattle.records.specs.declared.Record.{Record}
 use Rattle.blocks.specs.declared.Answer.{Answer}
@@ -24,7 +24,8 @@ use Rattle.sheets.specs.Slots.{figures as slotFigures}
 use Rattle.sheets.specs.Sheet.{figuresOf, translateDef}
 use Rattle.sheets.proofs.SlotLaws.{translation-length, figures-few}
 use Rattle.sheets.proofs.SheetLaws.{translated-means}
-use Rattle.laws.proofs.KeptLaws.{SoundSet, lawful, lawful-sound, lawful-typed}
+use Rattle.laws.proofs.KeptLaws.{SoundSet, own, lawful, lawful-sound, lawful-typed}
+use Rattle.laws.proofs.RunLaws.{still-right}
 use Rattle.sending.specs.Send.{Ready, Reply, Accepted, sent, left, sentAll, AllAccepted, unitsOf}
 use Rattle.sending.proofs.WaitLaws.{Waiting, waiting, waiting-ready}
 use Rattle.sending.proofs.ReadLaws.{turned-waits, pitch-turns}
@@ -40,7 +41,7 @@ use Rattle.drawing.specs.Draw.{Outcome, outcome, allSent, largerB, sheet
 use Rattle.drawing.specs.Right.{Right, SheetIsDrawn, ReadySheetIsDrawn}
 
 -- ---- PITCH from read mode
-module _ (p h : ℕ) (glyphs : List ℕ) (figures : List Record) (r : Registers) (lawful : SoundSet r) (read : r .mode ≡ Read)
+module _ (p h : ℕ) (glyphs : List ℕ) (figures : List Record) (r : Registers) (lawful : SoundSet (r .board) r) (read : r .mode ≡ Read)
     (m l : List ℕ) where
   same : sent (state r m) 0x147 ≡ sent (state (turnedBack r) m) 0x147
   same = pitch-turns r lawful read m
@@ -97,14 +98,14 @@ module _ (sheet : List ℕ) (p h : ℕ) (glyphs : List ℕ) (entries : List ℕ)
       ap (take (a .first)) (k .out) ∙ taken-out entries all (a .first) size (k .fits)
 
   -- the entries drawn from any set that waits, and from one in read mode
-  from-waiting : (r : Registers) → Waiting r → (m : List ℕ) → lengthB (length m) ≡ true → p * h ≤ length m
+  from-waiting : (r : Registers) → Waiting r → (m : List ℕ) → lengthB (r .board .wiring) (length m) ≡ true → p * h ≤ length m
       → Shown p h glyphs figures all (state r m)
   from-waiting r v m long room =
       subst (λ (l : List ℕ). Shown p h glyphs figures l (state r m)) first-written
       (picture-is-right sheet p h glyphs entries out a refl accepted bytes r m (waiting-ready v) (lawful-typed r (v .lawful)) long room)
 
-  from-reading : (r : Registers) → SoundSet r → r .mode ≡ Read → (m : List ℕ) → lengthB (length m) ≡ true → p * h ≤ length m
-      → Shown p h glyphs figures all (state r m)
+  from-reading : (r : Registers) → SoundSet (r .board) r → r .mode ≡ Read → (m : List ℕ)
+      → lengthB (r .board .wiring) (length m) ≡ true → p * h ≤ length m → Shown p h glyphs figures all (state r m)
   unfolding translation
   from-reading r l read m long room =
       from-read p h glyphs figures r l read m (p ∷ translated glyphs p figures)
@@ -118,14 +119,14 @@ module _ (sheet : List ℕ) (p h : ℕ) (glyphs : List ℕ) (entries : List ℕ)
         and-false true = refl
         and-false false = refl
 
-    granted : soundB r ≡ true → lengthB (length mem) ≡ true → p * h ≤ length mem
+    granted : soundB r ≡ true → lengthB (r .board .wiring) (length mem) ≡ true → p * h ≤ length mem
         → sheetDrawn sheet p h glyphs r entries mem
         ≡ allSent a out (finished (state r mem)) (listSent (leftAt (finished (state r mem))) (take (a .first) out))
     unfolding sheetDrawn
     granted s l room = rw (s, l, fits room, eq-eqb (a .number) 0 accepted)
 
   -- what the entries draw from w on is what the answer says
-  right : (w : Sending) {q : Drawn} {out′ drawn : List ℕ} → soundB (w .sent .regs) ≡ true → lengthB (length (w .mem)) ≡ true
+  right : (w : Sending) {q : Drawn} {out′ drawn : List ℕ} → soundB (w .sent .regs) ≡ true → fittedB (leftAt w) ≡ true
       → Shown p h glyphs figures all (leftAt w)
       → outcome q out′ drawn ≡ allSent a out w (listSent (leftAt w) (take (a .first) out))
       → Right p h glyphs figures (w .sent .regs) (w .mem) q out′ drawn
@@ -155,12 +156,13 @@ sheet-is-drawn sheet p h glyphs r entries mem q out′ drawn e z bytes sound typ
     let w = finished (state r mem) in
     let settled = finishes (length mem) long (state r mem)
     (record { regs = lawful r sound typed; words = words; long = refl }) in
-    let long′ : lengthB (length (w .mem)) ≡ true = ap lengthB (settled .whole .long) ∙ long in
+    let long′ : fittedB (leftAt w) ≡ true = still-right (length mem) long (leftAt w) (settled .whole) in
     let room′ : p * h ≤ length (w .mem) = rw (settled .whole .long) room in
     right sheet p h glyphs entries z bytes w (lawful-sound (w .sent .regs) (settled .whole .regs)) long′
     (stands (w .sent .regs) (settled .whole .regs)
     (λ v. from-waiting sheet p h glyphs entries z bytes (w .sent .regs) v (w .mem) long′ room′)
-    (λ k. from-reading sheet p h glyphs entries z bytes (w .sent .regs) (settled .whole .regs) k (w .mem) long′ room′) (settled .still))
+    (λ k. from-reading sheet p h glyphs entries z bytes (w .sent .regs) (own (w .sent .regs) (settled .whole .regs)) k (w .mem) long′ room′)
+    (settled .still))
     (e ∙ granted sheet p h glyphs entries z bytes r mem sound long room)
 
 pub ready-sheet-is-drawn : ReadySheetIsDrawn

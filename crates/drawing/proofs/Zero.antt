@@ -41,7 +41,7 @@ module _ (sheet : List ℕ) (p h : ℕ) (glyphs : List ℕ) (r : Registers) (ent
 
   pub record Granted : Type 0 where
     pub sound : soundB r ≡ true
-    pub long : lengthB (length mem) ≡ true
+    pub long : lengthB (r .board .wiring) (length mem) ≡ true
     pub fits : largerB p h (length mem) ≡ false
     pub accepted : a .number ≡ 0
 
@@ -55,7 +55,7 @@ module _ (sheet : List ℕ) (p h : ℕ) (glyphs : List ℕ) (r : Registers) (ent
       (outcome (refusal 2 0 0 r) entries mem))
       (outcome (refusal 1 0 0 r) entries mem)
 
-  granted-by : (s l k : Bool) → soundB r ≡ s → lengthB (length mem) ≡ l → largerB p h (length mem) ≡ k → by s l k .drawn .number ≡ 0
+  granted-by : (s l k : Bool) → soundB r ≡ s → lengthB (r .board .wiring) (length mem) ≡ l → largerB p h (length mem) ≡ k → by s l k .drawn .number ≡ 0
       → Granted
   granted-by false l k e f g z = let w : _≡_ {A = ℕ} 1 0 = z in absurd (omega arith)
   granted-by true false k e f g z = let w : _≡_ {A = ℕ} 2 0 = z in absurd (omega arith)
@@ -67,7 +67,7 @@ module _ (sheet : List ℕ) (p h : ℕ) (glyphs : List ℕ) (r : Registers) (ent
 
   pub zero-granted : sheetDrawn sheet p h glyphs r entries mem .drawn .number ≡ 0 → Granted
   unfolding sheetDrawn
-  zero-granted z = granted-by (soundB r) (lengthB (length mem)) (largerB p h (length mem)) refl refl refl z
+  zero-granted z = granted-by (soundB r) (lengthB (r .board .wiring) (length mem)) (largerB p h (length mem)) refl refl refl z
 
   pub zero-fits : Granted → p * h ≤ length mem
   zero-fits g =

@@ -62,7 +62,7 @@ largerB p h n = planeB p h && ltb n (p * h)
 unfoldable pub sheetDrawn : List ℕ → ℕ → ℕ → List ℕ → Registers → List ℕ → List ℕ → Outcome
 sheetDrawn sheet p h glyphs r entries mem =
     cond (soundB r)
-    (cond (lengthB (length mem))
+    (cond (lengthB (r .board .wiring) (length mem))
     (cond (largerB p h (length mem)) (outcome (refusal 23 0 0 r) entries mem)
     (drawnBy (translateDef sheet p h glyphs entries .answer) (translateDef sheet p h glyphs entries .out) r entries mem))
     (outcome (refusal 2 0 0 r) entries mem))

@@ -50,13 +50,13 @@ pub record Right (p h : ℕ) (glyphs : List ℕ) (figures : List Record) (r : Re
 
 -- Take what `draw_sheet` answers, as its contract says it: for a sheet, P and H, glyph bytes and room for the entries that the translator
 -- accepts; any sound register set, whatever waits in it or is in progress (`Typed` and `Words` are what the types say); and a memory of
--- a lawful length that the picture fits, whatever it holds. Then the picture is drawn over what the earlier work leaves.
+-- a length that is lawful for its wiring and that the picture fits, whatever it holds. Then the picture is drawn over what the earlier work leaves.
 abbrev pub SheetIsDrawn : Type 0
 SheetIsDrawn =
     (sheet : List ℕ) (p h : ℕ) (glyphs : List ℕ) (r : Registers) (entries mem : List ℕ) (q : Drawn) (out drawn : List ℕ)
     → outcome q out drawn ≡ sheetDrawn sheet p h glyphs r entries mem
     → translateDef sheet p h glyphs entries .answer .number ≡ 0 → Bytes glyphs
-    → soundB r ≡ true → Typed r → Words mem → lengthB (length mem) ≡ true → p * h ≤ length mem
+    → soundB r ≡ true → Typed r → Words mem → lengthB (r .board .wiring) (length mem) ≡ true → p * h ≤ length mem
     → Right p h glyphs (figuresOf sheet p h glyphs) (finished (state r mem) .sent .regs) (finished (state r mem) .mem) q out drawn
 
 -- .. and where the set is in write mode, with its buffer empty and nothing being drawn, over the memory as it is lent
@@ -65,7 +65,7 @@ ReadySheetIsDrawn =
     (sheet : List ℕ) (p h : ℕ) (glyphs : List ℕ) (r : Registers) (entries mem : List ℕ) (q : Drawn) (out drawn : List ℕ)
     → outcome q out drawn ≡ sheetDrawn sheet p h glyphs r entries mem
     → translateDef sheet p h glyphs entries .answer .number ≡ 0 → Bytes glyphs
-    → Ready r → Typed r → lengthB (length mem) ≡ true → p * h ≤ length mem
+    → Ready r → Typed r → lengthB (r .board .wiring) (length mem) ≡ true → p * h ≤ length mem
     → Right p h glyphs (figuresOf sheet p h glyphs) r mem q out drawn
 
 -- .. and 0 is answered nowhere else: where it is, no entry was refused, and the picture is drawn

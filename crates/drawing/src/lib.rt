@@ -52,7 +52,9 @@ pub fn draw_sheet(
     if !registers::sound(r) {
         return refuse(1, 0, 0, r);
     }
-    if !units::length_right(mem.len()) {
+    let board = r.board;
+    let wiring = board.wiring;
+    if !units::length_right(wiring, mem.len()) {
         return refuse(2, 0, 0, r);
     }
     if larger(p, h, mem.len()) {

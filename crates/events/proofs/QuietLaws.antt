@@ -5,7 +5,7 @@ use mathlib.Core.Bool.{Bool, true, false}
 use lib.ListN.{length}
 use Rattle.registers.specs.Sound.{soundB}
 use Rattle.registers.specs.State.{State}
-use Rattle.units.specs.Run.{lengthB, runFrom, runBy, runDone}
+use Rattle.units.specs.Run.{fittedB, runFrom, runBy, runDone}
 use Rattle.finishing.specs.Finish.{outcome as runs}
 use Rattle.replaying.specs.Replay.{Effect, ran, runsOf, eventDone}
 use Rattle.events.specs.Event.{unitsAsked}
@@ -24,4 +24,4 @@ module _ (s : State) where
 
   pub no-units-alter-nothing : eventDone s (unitsAsked 0) ≡ unmoved
   unfolding eventDone runsOf runDone
-  no-units-alter-nothing = still (soundB (s .regs)) (lengthB (length (s .mem)))
+  no-units-alter-nothing = still (soundB (s .regs)) (fittedB s)

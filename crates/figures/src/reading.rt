@@ -67,8 +67,10 @@ pub fn read_unit(r: Registers, i: u16, t: Transfer, mem: &mut [u16]) -> Register
     ensures { λ q. ⌜ state q (now (mem .exit)) ≡ readUnit i t (state r (now (mem .entry))) ⌝ }
 {
     let held = r.buffer;
+    let board = r.board;
+    let wiring = board.wiring;
     if room(t, held) {
-        return item_given(r, i, t, dots::met(mem, r.cursor.ead));
+        return item_given(r, i, t, dots::met(mem, wiring, r.cursor.ead));
     }
     r
 }

@@ -21,6 +21,7 @@ use Rattle.registers.specs.declared.Work.the-variants.{Idle, Figure, Arc, Chara
 use Rattle.registers.specs.declared.Running.{Running}
 use Rattle.registers.specs.declared.Drawing.{Drawing}
 use Rattle.registers.specs.declared.Buffer.{Buffer}
+use Rattle.registers.specs.declared.Board.{Board}
 use Rattle.registers.specs.declared.Registers.{Registers}
 use Rattle.registers.specs.Size.{plainKind, lineKind, characterKind, arcKind, rectangleKind, dotsOf, arcCyclesOf, factorOf, rowsOf}
 use Rattle.registers.specs.Size.{columnsOf}
@@ -105,7 +106,7 @@ queue-few Write n h = omega arith
 queue-few Read n h = omega arith
 
 -- what lies before a sound set: at most the rest of one figure, and sixteen entries that start one each
-pub to-do-few : (r : Registers) → SoundSet r → toDo r ≤ 17 * 68715282433
+pub to-do-few : {board : Board} (r : Registers) → SoundSet board r → toDo r ≤ 17 * 68715282433
 to-do-few r l =
     let u = work-few (r .drawing) (r .video .zoom) (l .drawing) (r .work) in
     let v = queue-few (r .mode) (r .buffer .count) (l .buffer .fits .count) in
@@ -176,7 +177,7 @@ popped-count b =
     (λ t. refl)
 
 -- ---- a unit takes one away
-module _ (n : ℕ) (s : State) (w : Whole n s) where
+module _ {board : Board} (n : ℕ) (s : State) (w : Whole board n s) where
   abbrev r : Registers
   r = s .regs
 
@@ -226,7 +227,7 @@ module _ (n : ℕ) (s : State) (w : Whole n s) where
       let b = popped (r .buffer) in
       let before : State = state (putBuffer r b) (s .mem) in
       let q : Registers = entryTaken e before .regs in
-      let kept : Whole n (entryTaken e before) =
+      let kept : Whole board n (entryTaken e before) =
       entry-kept n e before
       (record {
         regs = buffer-kept r (w .regs) b (popped-queue (r .mode) (r .buffer) (w .regs .buffer));
@@ -272,7 +273,7 @@ module _ (n : ℕ) (s : State) (w : Whole n s) where
   unit-less h = less-by (r .work) refl h
 
 -- n units that all apply take n away
-pub units-less : (n k : ℕ) (s : State) → Whole n s → ((i : ℕ) → i < k → reasonOf (unitsDone i s .regs) ≡ 0)
+pub units-less : {board : Board} (n k : ℕ) (s : State) → Whole board n s → ((i : ℕ) → i < k → reasonOf (unitsDone i s .regs) ≡ 0)
     → toDo (unitsDone k s .regs) + k ≤ toDo (s .regs)
 unfolding unitsDone
 units-less n zero s w busy = omega arith

@@ -13,41 +13,42 @@ use Rattle.registers.specs.declared.Mode.{Mode}
 use Rattle.registers.specs.declared.Mode.the-variants.{Write, Read}
 use Rattle.registers.specs.declared.Work.{Work}
 use Rattle.registers.specs.declared.Work.the-variants.{Idle, Figure, Arc, Character, Reading}
+use Rattle.registers.specs.declared.Board.{Board}
 use Rattle.registers.specs.declared.Registers.{Registers}
 use Rattle.registers.specs.State.{State, state}
 use Rattle.units.specs.Run.{reasonBy, reasonOf, unitsDone, stopped, lengthB, runDone}
 use Rattle.units.specs.Run.{Outcome as RunOutcome}
 use Rattle.laws.proofs.BranchLaws.{either, cases}
-use Rattle.laws.proofs.KeptLaws.{Going, SoundSet, Whole, lawful-sound}
+use Rattle.laws.proofs.KeptLaws.{Going, SoundSet, Whole, own, lawful-sound}
 use Rattle.laws.proofs.KeptUnitLaws.{leftBy, run-kept}
-use Rattle.laws.proofs.RunLaws.{Reasoned, run-reason, run-idle, run-counts, run-within}
+use Rattle.laws.proofs.RunLaws.{Reasoned, run-reason, run-idle, run-counts, run-within, still-right}
 use Rattle.sending.specs.Send.{fullBudget}
 use Rattle.sending.proofs.WaitLaws.{Waiting, waiting-sound, waiting-reason}
 use Rattle.finishing.specs.Finish.{Outcome, outcome, leftAt, unmoved, more, runsDone, finished}
 use Rattle.finishing.proofs.EndLaws.{toDo, to-do-few, units-less}
 
 -- a state from which no unit applies
-pub record Settled (n : ℕ) (s : State) : Type 0 where
-  pub whole : Whole n s
+pub record Settled (board : Board) (n : ℕ) (s : State) : Type 0 where
+  pub whole : Whole board n s
   pub still : reasonOf (s .regs) ≡ 0 → ⊥
 
-module _ (n : ℕ) (right : lengthB n ≡ true) where
-  settles : (f : ℕ) (s : State) → Whole n s → toDo (s .regs) < f * 4294967295 → Settled n (leftAt (runsDone f s))
+module _ {board : Board} (n : ℕ) (right : lengthB (board .wiring) n ≡ true) where
+  settles : (f : ℕ) (s : State) → Whole board n s → toDo (s .regs) < f * 4294967295 → Settled board n (leftAt (runsDone f s))
   unfolding runsDone
   settles zero s w h = absurd (omega arith)
   settles (suc f) s w h =
-      cases (λ (x : Outcome). Settled n (leftAt (more (o .ran .count) x))) (eqb (o .ran .why) 1)
+      cases (λ (x : Outcome). Settled board n (leftAt (more (o .ran .count) x))) (eqb (o .ran .why) 1)
       (λ t. settles f (leftBy o) kept (fewer (eqb-true (o .ran .why) 1 t)))
       (λ t. record { whole = kept; still = stays (eqb-false (o .ran .why) 1 t) })
     where
       o : RunOutcome
       o = runDone fullBudget s
 
-      kept : Whole n (leftBy o)
+      kept : Whole board n (leftBy o)
       kept = run-kept n fullBudget s w
 
       told : Reasoned fullBudget s o
-      told = run-reason fullBudget s (lawful-sound (s .regs) (w .regs)) (ap lengthB (w .long) ∙ right)
+      told = run-reason fullBudget s (lawful-sound (s .regs) (w .regs)) (still-right n right s w)
 
       within : o .ran .count ≤ fullBudget
       within = run-within fullBudget s
@@ -70,16 +71,16 @@ module _ (n : ℕ) (right : lengthB n ≡ true) where
           omega (arith, stop .why, stop .two)
 
   -- whatever was waiting or in progress, no unit applies then, and the set is as sound as before
-  pub finishes : (s : State) → Whole n s → Settled n (leftAt (finished s))
+  pub finishes : (s : State) → Whole board n s → Settled board n (leftAt (finished s))
   unfolding finished
   finishes s w = settles 272 s w (omega (arith, to-do-few (s .regs) (w .regs)))
 
 -- the controller waits for entries, or it is in read mode
-module _ {P : Type 0} (r : Registers) (l : SoundSet r) (waits : Waiting r → P) (reads : r .mode ≡ Read → P) where
+module _ {P : Type 0} {board : Board} (r : Registers) (l : SoundSet board r) (waits : Waiting r → P) (reads : r .mode ≡ Read → P) where
   idle-by : r .work ≡ Idle → (m : Mode) → r .mode ≡ m → (reasonBy Idle m (r .buffer) ≡ 0 → ⊥) → P
   idle-by e Write write still =
       cases (λ (x : ℕ). (x ≡ 0 → ⊥) → P) (eqb (r .buffer .count) 0)
-      (λ t k. waits (record { lawful = l; mode = write; idle = e; empty = eqb-true (r .buffer .count) 0 t }))
+      (λ t k. waits (record { lawful = own r l; mode = write; idle = e; empty = eqb-true (r .buffer .count) 0 t }))
       (λ t k. absurd (k refl)) still
   idle-by e Read read still = reads read
 
@@ -101,7 +102,8 @@ nothing-run : (f : ℕ) (s : State) → runDone fullBudget s ≡ stopped s 0 2 �
 unfolding runsDone
 nothing-run f s e = rw e
 
-pub waits-already : (r : Registers) (m : List ℕ) → Waiting r → lengthB (length m) ≡ true → finished (state r m) ≡ unmoved (state r m)
+pub waits-already : (r : Registers) (m : List ℕ) → Waiting r → lengthB (r .board .wiring) (length m) ≡ true
+    → finished (state r m) ≡ unmoved (state r m)
 unfolding finished
 waits-already r m v long =
     let z = waiting-reason r v in

@@ -3,6 +3,7 @@ use mathlib.Core.Path.{refl}
 use mathlib.Core.List.{List}
 use Prim.Native.Nat.{ℕ}
 use lib.ListN.{length}
+use Rattle.registers.specs.declared.Board.{Board}
 use Rattle.registers.specs.declared.Registers.{Registers}
 use Rattle.registers.specs.State.{state}
 use Rattle.registers.specs.Typed.{Words}
@@ -14,13 +15,14 @@ use Rattle.laws.proofs.KeptUnitLaws.{leftBy, run-kept}
 use Rattle.laws.proofs.KeptPortLaws.{command-written-kept, parameter-written-kept, byte-read-kept, status-read-kept}
 use Rattle.laws.proofs.KeptPortLaws.{pen-posted-kept}
 
-keeps : {after : Registers → Registers} → ((r : Registers) → SoundSet r → SoundSet (after r)) → KeepsSound after
+keeps : {after : Registers → Registers} → ((r : Registers) → SoundSet (r .board) r → SoundSet (r .board) (after r)) → KeepsSound after
 keeps {after} h r t e =
-    let l : SoundSet (after r) = h r (lawful r e t) in
-    (lawful-sound (after r) l, lawful-typed (after r) l)
+    let l : SoundSet (r .board) (after r) = h r (lawful r e t) in
+    (lawful-sound (after r) l, (lawful-typed (after r) l, l .same))
 
 -- what a run leaves of a sound set and a memory of 16-bit words
-run-leaves : (budget : ℕ) (r : Registers) (m : List ℕ) → SoundSet r → Words m → Whole (length m) (leftBy (runDone budget (state r m)))
+run-leaves : {board : Board} (budget : ℕ) (r : Registers) (m : List ℕ) → SoundSet board r → Words m
+    → Whole board (length m) (leftBy (runDone budget (state r m)))
 run-leaves budget r m l w = run-kept (length m) budget (state r m) (record { regs = l; words = w; long = refl })
 
 pub every-entry-keeps-sound : EveryEntryKeepsSound

@@ -4,6 +4,7 @@ use mathlib.Core.Path.{_≡_}
 use Prim.Native.Nat.{ℕ, _+_}
 use lib.Dec.{eqb, ltb}
 use borrow.Author.Tests.{ltb-true}
+use Rattle.registers.specs.declared.Board.{Board}
 use Rattle.registers.specs.declared.Running.{Running}
 use Rattle.registers.specs.declared.Registers.{Registers}
 use Rattle.registers.specs.declared.Work.the-variants.{Idle, Arc}
@@ -18,7 +19,7 @@ use Rattle.laws.proofs.BranchLaws.{either, cases}
 use Rattle.laws.proofs.KeptLaws.{Going, SoundSet, Whole, cursor-kept, work-kept, cycle-kept}
 use Rattle.laws.proofs.KeptMoveLaws.{MovingFits, moved-fits, passed-fits}
 
-module _ (r : Registers) (l : SoundSet r) (k : ℕ) (a : Running) (e : r .work ≡ Arc k a) where
+module _ {board : Board} (r : Registers) (l : SoundSet board r) (k : ℕ) (a : Running) (e : r .work ≡ Arc k a) where
   going : Going (r .drawing) (r .video .zoom) (r .mode) (Arc k a)
   going = rw e at (l .work)
 
@@ -30,20 +31,21 @@ module _ (r : Registers) (l : SoundSet r) (k : ℕ) (a : Running) (e : r .work �
       let s : MovingFits (moving r a) = record { running = going .place .1; cursor = l .cursor } in
       either MovingFits (eqb k 0) (passed-fits (r .drawing .dir) (r .pitch) (moving r a) (r .drawing .dm) s) s
 
-  there : SoundSet (putCursor r (met .cursor))
+  there : SoundSet board (putCursor r (met .cursor))
   there = cursor-kept r l (met .cursor) (met-fits .cursor)
 
-  arc-moves : SoundSet (arcMoved k met r)
+  arc-moves : SoundSet board (arcMoved k met r)
   unfolding arcMoved
   arc-moves =
       let next = movedOn (r .drawing .dir) (r .pitch) met in
       let s : MovingFits next = moved-fits (r .drawing .dir) (r .pitch) met met-fits in
-      cases SoundSet (ltb (k + 1) (arcCyclesOf (r .drawing)))
+      cases (SoundSet board) (ltb (k + 1) (arcCyclesOf (r .drawing)))
       (λ t. work-kept (putCursor r (next .cursor)) (cursor-kept r l (next .cursor) (s .cursor)) (Arc (k + 1) (next .running))
       (record { place = (ltb-true (k + 1) (arcCyclesOf (r .drawing)) t, s .running); mode = going .mode; start = tt }))
       (λ t. work-kept (putCursor r (met .cursor)) there Idle (record { place = tt; mode = tt; start = tt }))
 
-pub arc-kept : (n k : ℕ) (a : Running) (s : State) → Whole n s → s .regs .work ≡ Arc k a → Whole n (arcUnit k a s)
+pub arc-kept : {board : Board} (n k : ℕ) (a : Running) (s : State) → Whole board n s → s .regs .work ≡ Arc k a
+    → Whole board n (arcUnit k a s)
 unfolding arcUnit
 arc-kept n k a s w e =
     let r = s .regs in

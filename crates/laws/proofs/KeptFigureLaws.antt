@@ -10,6 +10,7 @@ use Rattle.dots.specs.declared.Cursor.{Cursor}
 use Rattle.dots.specs.Step.{Fits, stepOf, wordMoveOf}
 use Rattle.dots.specs.Cycle.{metBy}
 use Rattle.dots.proofs.StepLaws.{fits-step}
+use Rattle.registers.specs.declared.Board.{Board}
 use Rattle.registers.specs.declared.Mode.{Mode}
 use Rattle.registers.specs.declared.Mode.the-variants.{Read}
 use Rattle.registers.specs.declared.Transfer.{Transfer}
@@ -26,12 +27,12 @@ use Rattle.figures.specs.Figure.{patternAt, negative, errorAfter, directionAt, 
 use Rattle.figures.specs.Character.{characterPattern, nextStart, characterMoved, characterUnit}
 use Rattle.figures.specs.Reading.{roomB, given, readOn, itemGiven, readUnit}
 use Rattle.laws.proofs.BranchLaws.{either, cases}
-use Rattle.laws.proofs.KeptLaws.{Queue, Going, SoundSet, Whole, cursor-kept, buffer-kept, work-kept, cycle-kept}
+use Rattle.laws.proofs.KeptLaws.{Queue, Going, SoundSet, Whole, cursor-kept, buffer-kept, work-kept, met-below, cycle-kept}
 use Rattle.laws.proofs.KeptBufferLaws.{pushed-queue}
 use Rattle.laws.proofs.KeptProcessorLaws.{word-fits}
 
 -- the figure, or the read, ends
-ends : (r : Registers) → SoundSet r → SoundSet (putWork r Idle)
+ends : {board : Board} (r : Registers) → SoundSet board r → SoundSet board (putWork r Idle)
 ends r l = work-kept r l Idle (record { place = tt; mode = tt; start = tt })
 
 -- ---- FIGD's figure
@@ -42,13 +43,13 @@ running-below f d h =
     either (λ (x : ℕ). x < 16384) (eqb (f .kind) lineKind)
     (either (λ (x : ℕ). x < 16384) (negative d) (omega arith) (omega arith)) h
 
-module _ (r : Registers) (l : SoundSet r) (k d : ℕ) (e : r .work ≡ Figure k d) where
-  figure-moves : SoundSet (figureMoved k d r)
+module _ {board : Board} (r : Registers) (l : SoundSet board r) (k d : ℕ) (e : r .work ≡ Figure k d) where
+  figure-moves : SoundSet board (figureMoved k d r)
   unfolding figureMoved
   figure-moves =
       let g : Going (r .drawing) (r .video .zoom) (r .mode) (Figure k d) = rw e at (l .work) in
       let c = stepOf (directionAt (r .drawing) k d) (r .pitch) (r .cursor) in
-      cases SoundSet (ltb (k + 1) (dotsOf (r .drawing)))
+      cases (SoundSet board) (ltb (k + 1) (dotsOf (r .drawing)))
       (λ t. work-kept (putCursor r c) (cursor-kept r l c (fits-step (directionAt (r .drawing) k d) (r .pitch) (r .cursor) (l .cursor)))
       (Figure (k + 1) (runningD (r .drawing) d))
       (record {
@@ -58,23 +59,24 @@ module _ (r : Registers) (l : SoundSet r) (k d : ℕ) (e : r .work ≡ Figure k 
       }))
       (λ t. ends r l)
 
-pub figure-kept : (n k d : ℕ) (s : State) → Whole n s → s .regs .work ≡ Figure k d → Whole n (figureUnit k d s)
+pub figure-kept : {board : Board} (n k d : ℕ) (s : State) → Whole board n s → s .regs .work ≡ Figure k d → Whole board n (figureUnit k d s)
 unfolding figureUnit
 figure-kept n k d s w e =
-    cycle-kept n (s .regs .op) (patternAt (s .regs .ram) k) (s .regs) (figureMoved k d (s .regs)) (s .mem) w
+    cycle-kept n (s .regs .board .wiring) (s .regs .op) (patternAt (s .regs .ram) k) (s .regs) (figureMoved k d (s .regs)) (s .mem) w
     (figure-moves (s .regs) (w .regs) k d e)
 
 -- ---- GCHRD's character
 
-module _ (r : Registers) (l : SoundSet r) (row column : ℕ) (start : Cursor) (e : r .work ≡ Character row column start) where
-  character-moves : SoundSet (characterMoved row column start r)
+module _ {board : Board} (r : Registers) (l : SoundSet board r) (row column : ℕ) (start : Cursor)
+    (e : r .work ≡ Character row column start) where
+  character-moves : SoundSet board (characterMoved row column start r)
   unfolding characterMoved nextStart
   character-moves =
       let g : Going (r .drawing) (r .video .zoom) (r .mode) (Character row column start) = rw e at (l .work) in
       let along = stepOf (r .drawing .dir) (r .pitch) (r .cursor) in
       let next = stepOf ((r .drawing .dir + 2) % 8) (r .pitch) start in
       let fits : Fits next = fits-step ((r .drawing .dir + 2) % 8) (r .pitch) start (record { ead = g .place .2; mask = g .start }) in
-      cases SoundSet (ltb (column + 1) (columnsOf (r .drawing) (r .video .zoom)))
+      cases (SoundSet board) (ltb (column + 1) (columnsOf (r .drawing) (r .video .zoom)))
       (λ t. work-kept (putCursor r along) (cursor-kept r l along (fits-step (r .drawing .dir) (r .pitch) (r .cursor) (l .cursor)))
       (Character row (column + 1) start)
       (record {
@@ -82,7 +84,7 @@ module _ (r : Registers) (l : SoundSet r) (row column : ℕ) (start : Cursor) (e
         mode = g .mode;
         start = g .start;
       }))
-      (λ t. cases SoundSet (ltb (row + 1) (rowsOf (r .drawing) (r .video .zoom)))
+      (λ t. cases (SoundSet board) (ltb (row + 1) (rowsOf (r .drawing) (r .video .zoom)))
       (λ u. work-kept (putCursor r next) (cursor-kept r l next fits) (Character (row + 1) 0 next)
       (record {
         place = (ltb-true (row + 1) (rowsOf (r .drawing) (r .video .zoom)) u, omega (arith, g .place .1), fits .ead);
@@ -91,11 +93,11 @@ module _ (r : Registers) (l : SoundSet r) (row column : ℕ) (start : Cursor) (e
       }))
       (λ u. ends r l))
 
-pub character-kept : (n row column : ℕ) (start : Cursor) (s : State) → Whole n s → s .regs .work ≡ Character row column start
-    → Whole n (characterUnit row column start s)
+pub character-kept : {board : Board} (n row column : ℕ) (start : Cursor) (s : State) → Whole board n s
+    → s .regs .work ≡ Character row column start → Whole board n (characterUnit row column start s)
 unfolding characterUnit
 character-kept n row column start s w e =
-    cycle-kept n (s .regs .op) (characterPattern (s .regs .ram) (factorOf (s .regs .video .zoom)) row column) (s .regs)
+    cycle-kept n (s .regs .board .wiring) (s .regs .op) (characterPattern (s .regs .ram) (factorOf (s .regs .video .zoom)) row column) (s .regs)
     (characterMoved row column start (s .regs)) (s .mem) w (character-moves (s .regs) (w .regs) row column start e)
 
 -- ---- a read
@@ -114,8 +116,8 @@ read-goes-on f zoom m t i e =
     (λ u. record { place = ltb-true (i + 1) (f .dc) u; mode = e; start = tt })
     (λ u. record { place = tt; mode = tt; start = tt })
 
-module _ (r : Registers) (l : SoundSet r) (i : ℕ) (t : Transfer) (e : r .work ≡ Reading i t) where
-  item-kept : (w : ℕ) → w < 65536 → SoundSet (itemGiven i t w r)
+module _ {board : Board} (r : Registers) (l : SoundSet board r) (i : ℕ) (t : Transfer) (e : r .work ≡ Reading i t) where
+  item-kept : (w : ℕ) → w < 65536 → SoundSet board (itemGiven i t w r)
   unfolding itemGiven
   item-kept w h =
       let g : Going (r .drawing) (r .video .zoom) (r .mode) (Reading i t) = rw e at (l .work) in
@@ -126,13 +128,14 @@ module _ (r : Registers) (l : SoundSet r) (i : ℕ) (t : Transfer) (e : r .work 
       (cursor-kept (putBuffer r b) (buffer-kept r l b q) c (word-fits (r .drawing .dir) (r .pitch) (r .cursor) (l .cursor)))
       (readOn t i (r .drawing .dc)) (read-goes-on (r .drawing) (r .video .zoom) (r .mode) t i (g .mode))
 
-pub read-kept : (n i : ℕ) (t : Transfer) (s : State) → Whole n s → s .regs .work ≡ Reading i t → Whole n (readUnit i t s)
+pub read-kept : {board : Board} (n i : ℕ) (t : Transfer) (s : State) → Whole board n s → s .regs .work ≡ Reading i t
+    → Whole board n (readUnit i t s)
 unfolding readUnit
 read-kept n i t s w e =
-    either (Whole n) (roomB t (s .regs .buffer))
+    either (Whole board n) (roomB t (s .regs .buffer))
     (record {
-      regs = item-kept (s .regs) (w .regs) i t e (metBy (s .regs .cursor .ead) (s .mem))
-          (w .words .below (s .regs .cursor .ead % length (s .mem)));
+      regs = item-kept (s .regs) (w .regs) i t e (metBy (s .regs .board .wiring) (s .regs .cursor .ead) (s .mem))
+          (met-below (s .regs .board .wiring) (s .regs .cursor .ead) (s .mem) (w .words));
       words = w .words;
       long = w .long;
     })

@@ -1,15 +1,20 @@
--- What every entry of the controller keeps: a register set that is sound and has what its types say (`SoundSet`), over a memory of
--- 16-bit words of one length (`Whole`). A change of one register keeps it if the new value has its part.
+-- What every entry of the controller keeps: a register set that is sound, has what its types say and is of one board (`SoundSet`), over a
+-- memory of 16-bit words of one length (`Whole`). A change of one register keeps it if the new value has its part.
 use mathlib.Core.Path.{_≡_, _∙_}
 use mathlib.Core.Bool.{true}
 use mathlib.Core.List.{List, [], _∷_}
 use Prim.Native.Nat.{ℕ, zero, suc, _≤_, _<_}
-use lib.ListN.{length, getD, set, length-set}
+use native.Mathlib.Decide.{decLt}
+use native.Mathlib.Omega.{arith}
+use lib.ListN.{length, getD, set, length-set, List·getD-eq-default}
 use Rattle.dots.specs.declared.Cursor.{Cursor}
+use Rattle.dots.specs.declared.Wiring.{Wiring}
 use Rattle.dots.specs.declared.Operation.{Operation}
 use Rattle.dots.specs.Step.{Fits, addresses}
-use Rattle.dots.specs.Cycle.{metBy, cycled}
+use Rattle.dots.specs.Cycle.{wordMet, metBy, cycled}
+use Rattle.dots.proofs.CycleLaws.{read-inside}
 use Rattle.dots.proofs.LogicLaws.{combined-lt}
+use Rattle.registers.specs.declared.Board.{Board}
 use Rattle.registers.specs.declared.Mode.{Mode}
 use Rattle.registers.specs.declared.Work.{Work}
 use Rattle.registers.specs.declared.Work.the-variants.{Idle}
@@ -35,7 +40,7 @@ pub record Going (f : Drawing) (zoom : ℕ) (m : Mode) (w : Work) : Type 0 where
   pub mode : Suits m w
   pub start : StartFits w
 
-pub record SoundSet (r : Registers) : Type 0 where
+pub record SoundSet (board : Board) (r : Registers) : Type 0 where
   pub cursor : Fits (r .cursor)
   pub drawing : DrawingFits (r .drawing)
   pub ram : length (r .ram) ≡ 16
@@ -43,9 +48,10 @@ pub record SoundSet (r : Registers) : Type 0 where
   pub buffer : Queue (r .mode) (r .buffer)
   pub progress : r .progress .next ≤ 16
   pub work : Going (r .drawing) (r .video .zoom) (r .mode) (r .work)
+  pub same : r .board ≡ board
 
-pub record Whole (n : ℕ) (s : State) : Type 0 where
-  pub regs : SoundSet (s .regs)
+pub record Whole (board : Board) (n : ℕ) (s : State) : Type 0 where
+  pub regs : SoundSet board (s .regs)
   pub words : Words (s .mem)
   pub long : length (s .mem) ≡ n
 
@@ -55,54 +61,58 @@ idle f zoom m e = record { place = rw e tt; mode = rw e tt; start = rw e tt }
 
 -- ---- from soundness and types, and back: each part is one of theirs, so it is found
 
-lawful-of : (r : Registers) → Sound r → Typed r → SoundSet r
+lawful-of : (r : Registers) → Sound r → Typed r → SoundSet (r .board) r
 lawful-of r s t = search
 
-sound-of : (r : Registers) → SoundSet r → Sound r
+sound-of : {board : Board} (r : Registers) → SoundSet board r → Sound r
 sound-of r l = search
 
-pub lawful : (r : Registers) → soundB r ≡ true → Typed r → SoundSet r
+pub lawful : (r : Registers) → soundB r ≡ true → Typed r → SoundSet (r .board) r
 lawful r e t = lawful-of r (sound-parts r e) t
 
-pub lawful-sound : (r : Registers) → SoundSet r → soundB r ≡ true
+pub lawful-sound : {board : Board} (r : Registers) → SoundSet board r → soundB r ≡ true
 lawful-sound r l = sound-whole r (sound-of r l)
 
-pub lawful-typed : (r : Registers) → SoundSet r → Typed r
+-- a set is of its own board
+pub own : {board : Board} (r : Registers) → SoundSet board r → SoundSet (r .board) r
+own r l = search
+
+pub lawful-typed : {board : Board} (r : Registers) → SoundSet board r → Typed r
 lawful-typed r l = search
 
 -- ---- one register changed: its part is given, and the others stay as they are, so each is found
 
-module _ (r : Registers) (l : SoundSet r) where
-  pub cursor-kept : (c : Cursor) → Fits c → SoundSet (putCursor r c)
+module _ {board : Board} (r : Registers) (l : SoundSet board r) where
+  pub cursor-kept : (c : Cursor) → Fits c → SoundSet board (putCursor r c)
   cursor-kept c h = search
 
-  pub plain-kept : (pitch : ℕ) (op : Operation) → SoundSet (putOp (putPitch r pitch) op)
+  pub plain-kept : (pitch : ℕ) (op : Operation) → SoundSet board (putOp (putPitch r pitch) op)
   plain-kept pitch op = search
 
-  pub drawing-kept : r .work ≡ Idle → (f : Drawing) → DrawingFits f → SoundSet (putDrawing r f)
+  pub drawing-kept : r .work ≡ Idle → (f : Drawing) → DrawingFits f → SoundSet board (putDrawing r f)
   drawing-kept e f h = search idle
 
-  pub ram-kept : (a : List ℕ) → length a ≡ 16 → SoundSet (putRam r a)
+  pub ram-kept : (a : List ℕ) → length a ≡ 16 → SoundSet board (putRam r a)
   ram-kept a h = search
 
-  pub video-kept : r .work ≡ Idle → (v : Video) → SoundSet (putVideo r v)
+  pub video-kept : r .work ≡ Idle → (v : Video) → SoundSet board (putVideo r v)
   video-kept e v = search idle
 
-  pub pen-kept : (p : Pen) → p .address < addresses → SoundSet (putPen r p)
+  pub pen-kept : (p : Pen) → p .address < addresses → SoundSet board (putPen r p)
   pen-kept p h = search
 
-  pub progress-kept : (p : Progress) → p .next ≤ 16 → SoundSet (putProgress r p)
+  pub progress-kept : (p : Progress) → p .next ≤ 16 → SoundSet board (putProgress r p)
   progress-kept p h = search
 
   -- mode, buffer and work go together
   pub turn-kept : (m : Mode) (b : Buffer) (w : Work) → Queue m b → Going (r .drawing) (r .video .zoom) m w
-      → SoundSet (putWork (putBuffer (putMode r m) b) w)
+      → SoundSet board (putWork (putBuffer (putMode r m) b) w)
   turn-kept m b w q g = search
 
-  pub buffer-kept : (b : Buffer) → Queue (r .mode) b → SoundSet (putBuffer r b)
+  pub buffer-kept : (b : Buffer) → Queue (r .mode) b → SoundSet board (putBuffer r b)
   buffer-kept b h = search
 
-  pub work-kept : (w : Work) → Going (r .drawing) (r .video .zoom) (r .mode) w → SoundSet (putWork r w)
+  pub work-kept : (w : Work) → Going (r .drawing) (r .video .zoom) (r .mode) w → SoundSet board (putWork r w)
   work-kept w h = search
 
 -- ---- the memory
@@ -114,16 +124,24 @@ set-below n (y ∷ m) zero x (suc j) h p = h
 set-below n (y ∷ m) (suc i) x zero h p = h
 set-below n (y ∷ m) (suc i) x (suc j) h p = set-below n m i x j h p
 
+-- what is met has 16 bits, past the end too
+pub met-below : (w : Wiring) (ead : ℕ) (m : List ℕ) → Words m → metBy w ead m < 65536
+met-below w ead m h = go (decLt (wordMet w ead (length m)) (length m))
+  where
+    go : Dec (wordMet w ead (length m) < length m) → metBy w ead m < 65536
+    go (yes k) = rw (read-inside m (wordMet w ead (length m)) 65535 0 k) (h .below (wordMet w ead (length m)))
+    go (no k) = rw (List·getD-eq-default m 65535 {wordMet w ead (length m)} (omega arith)) (omega arith)
+
 -- a cycle leaves 16-bit words, as many as there were
-pub cycle-kept : (n : ℕ) (op : Operation) (pattern : ℕ) (r q : Registers) (m : List ℕ) → Whole n (state r m) → SoundSet q
-    → Whole n (state q (cycled op pattern (r .cursor) m))
-cycle-kept n op pattern r q m h l =
+pub cycle-kept : {board : Board} (n : ℕ) (w : Wiring) (op : Operation) (pattern : ℕ) (r q : Registers) (m : List ℕ)
+    → Whole board n (state r m) → SoundSet board q → Whole board n (state q (cycled w op pattern (r .cursor) m))
+cycle-kept n w op pattern r q m h l =
     record {
       regs = l;
       words =
           record {
             below =
-                λ j. set-below 65536 m _ _ j (h .words .below j) (combined-lt op (metBy (r .cursor .ead) m) (r .cursor .mask) pattern);
+                λ j. set-below 65536 m _ _ j (h .words .below j) (combined-lt op (metBy w (r .cursor .ead) m) (r .cursor .mask) pattern);
           };
       long = length-set m _ _ ∙ h .long;
     }

@@ -8,6 +8,7 @@ use lib.Dec.{ltb}
 use borrow.Author.Tests.{ltb-true}
 use Rattle.dots.specs.Step.{Fits}
 use Rattle.dots.proofs.StepLaws.{fits-step}
+use Rattle.registers.specs.declared.Board.{Board}
 use Rattle.registers.specs.declared.Mode.the-variants.{Write}
 use Rattle.registers.specs.declared.Running.{Running}
 use Rattle.registers.specs.declared.Registers.{Registers}
@@ -41,16 +42,16 @@ unfolding passed
 passed-fits dir pitch m zero s = s
 passed-fits dir pitch m (suc n) s = moved-fits dir pitch (passed dir pitch m n) (passed-fits dir pitch m n s)
 
-module _ (r : Registers) (l : SoundSet r) (write : r .mode ≡ Write) where
+module _ {board : Board} (r : Registers) (l : SoundSet board r) (write : r .mode ≡ Write) where
   copied-fits : RunningFits (copied (r .drawing))
   copied-fits = record { d = l .drawing .d; d1 = l .drawing .d1; d2 = l .drawing .d2 }
 
-  pub arc-begins : SoundSet (arcBegun r)
+  pub arc-begins : SoundSet board (arcBegun r)
   unfolding arcBegun
   arc-begins =
       let m = moving r (copied (r .drawing)) in
       let c = passed (r .drawing .dir) (r .pitch) m (r .drawing .dc) .cursor in
-      cases SoundSet (ltb 0 (arcCyclesOf (r .drawing)))
+      cases (SoundSet board) (ltb 0 (arcCyclesOf (r .drawing)))
       (λ t. work-kept r l (Arc 0 (copied (r .drawing)))
       (record { place = (ltb-true 0 (arcCyclesOf (r .drawing)) t, copied-fits); mode = write; start = tt }))
       (λ t. cursor-kept r l c (passed-fits (r .drawing .dir) (r .pitch) m (r .drawing .dc)

@@ -7,6 +7,7 @@ use native.Mathlib.Omega.{arith}
 use lib.Dec.{eqb, leb}
 use borrow.Author.Tests.{leb-false}
 use Rattle.dots.specs.Step.{addresses}
+use Rattle.registers.specs.declared.Board.{Board}
 use Rattle.registers.specs.declared.Mode.{Mode}
 use Rattle.registers.specs.declared.Mode.the-variants.{Write, Read}
 use Rattle.registers.specs.declared.Work.the-variants.{Idle}
@@ -22,54 +23,54 @@ use Rattle.laws.proofs.KeptLaws.{SoundSet, idle, buffer-kept, pen-kept,
 use Rattle.laws.proofs.KeptBufferLaws.{empty-queue, pushed-queue, popped-queue}
 use Rattle.laws.proofs.KeptProcessorLaws.{reset-kept}
 
-abbrev pub Answers : Answer → Type 0
-Answers a = SoundSet (a .regs)
+abbrev pub Answers : Board → Answer → Type 0
+Answers board a = SoundSet board (a .regs)
 
-module _ (r : Registers) (l : SoundSet r) where
-  queued-kept : (e : ℕ) → e < markB (r .mode) → SoundSet (queued r e)
+module _ {board : Board} (r : Registers) (l : SoundSet board r) where
+  queued-kept : (e : ℕ) → e < markB (r .mode) → SoundSet board (queued r e)
   queued-kept e h = buffer-kept r l (pushed (r .buffer) e) (pushed-queue (r .mode) (r .buffer) (l .buffer) e h)
 
-  queued-or-3 : (e : ℕ) → e < markB (r .mode) → Answers (queuedOr3 r e)
+  queued-or-3 : (e : ℕ) → e < markB (r .mode) → Answers board (queuedOr3 r e)
   unfolding queuedOr3
-  queued-or-3 e h = either Answers (leb 16 (r .buffer .count)) l (queued-kept e h)
+  queued-or-3 e h = either (Answers board) (leb 16 (r .buffer .count)) l (queued-kept e h)
 
-pub turned-back : (r : Registers) → SoundSet r → SoundSet (turnedBack r)
+pub turned-back : {board : Board} (r : Registers) → SoundSet board r → SoundSet board (turnedBack r)
 turned-back r l = turn-kept r l Write emptyBuffer Idle (empty-queue Write) (idle (r .drawing) (r .video .zoom) Write refl)
 
-module _ (r : Registers) (l : SoundSet r) where
-  command-in : (m : Mode) → r .mode ≡ m → (b : ℕ) → b < 256 → Answers (commandIn m r b)
+module _ {board : Board} (r : Registers) (l : SoundSet board r) where
+  command-in : (m : Mode) → r .mode ≡ m → (b : ℕ) → b < 256 → Answers board (commandIn m r b)
   command-in Write e b h = queued-or-3 r l (b + 256) (rw e (omega arith))
   command-in Read e b h = queued-kept (turnedBack r) (turned-back r l) (b + 256) (omega arith)
 
-  pub command-written-kept : (b : ℕ) → b < 256 → Answers (commandWritten r b)
+  pub command-written-kept : (b : ℕ) → b < 256 → Answers board (commandWritten r b)
   unfolding commandWritten
   command-written-kept b h =
-      either Answers (soundB r) (either Answers (eqb b 0) (reset-kept r l) (command-in (r .mode) refl b h)) l
+      either (Answers board) (soundB r) (either (Answers board) (eqb b 0) (reset-kept r l) (command-in (r .mode) refl b h)) l
 
-  parameter-in : (m : Mode) → r .mode ≡ m → (b : ℕ) → b < 256 → Answers (parameterIn m r b)
+  parameter-in : (m : Mode) → r .mode ≡ m → (b : ℕ) → b < 256 → Answers board (parameterIn m r b)
   parameter-in Write e b h = queued-or-3 r l b (rw e (omega arith))
   parameter-in Read e b h = l
 
-  pub parameter-written-kept : (b : ℕ) → b < 256 → Answers (parameterWritten r b)
+  pub parameter-written-kept : (b : ℕ) → b < 256 → Answers board (parameterWritten r b)
   unfolding parameterWritten
-  parameter-written-kept b h = either Answers (soundB r) (parameter-in (r .mode) refl b h) l
+  parameter-written-kept b h = either (Answers board) (soundB r) (parameter-in (r .mode) refl b h) l
 
-  byte-in : (m : Mode) → Answers (byteIn m r)
+  byte-in : (m : Mode) → Answers board (byteIn m r)
   byte-in Write = l
   byte-in Read =
-      either Answers (eqb (r .buffer .count) 0) l
+      either (Answers board) (eqb (r .buffer .count) 0) l
       (buffer-kept r l (popped (r .buffer)) (popped-queue (r .mode) (r .buffer) (l .buffer)))
 
-  pub byte-read-kept : Answers (byteRead r)
+  pub byte-read-kept : Answers board (byteRead r)
   unfolding byteRead
-  byte-read-kept = either Answers (soundB r) (byte-in (r .mode)) l
+  byte-read-kept = either (Answers board) (soundB r) (byte-in (r .mode)) l
 
-  pub status-read-kept : Answers (statusRead r)
+  pub status-read-kept : Answers board (statusRead r)
   unfolding statusRead
-  status-read-kept = either Answers (soundB r) l l
+  status-read-kept = either (Answers board) (soundB r) l l
 
-  pub pen-posted-kept : (a : ℕ) → Answers (penPosted r a)
+  pub pen-posted-kept : (a : ℕ) → Answers board (penPosted r a)
   unfolding penPosted
   pen-posted-kept a =
-      either Answers (soundB r)
-      (cases Answers (leb addresses a) (λ t. l) (λ t. pen-kept r l (record { address = a; set = true }) (leb-false addresses a t))) l
+      either (Answers board) (soundB r)
+      (cases (Answers board) (leb addresses a) (λ t. l) (λ t. pen-kept r l (record { address = a; set = true }) (leb-false addresses a t))) l

@@ -13,6 +13,7 @@ use Rattle.dots.specs.declared.Cursor.{Cursor}
 use Rattle.dots.specs.Operation.{operationOf}
 use Rattle.dots.specs.Step.{Fits, wordMoveOf}
 use Rattle.dots.proofs.Below.{below}
+use Rattle.registers.specs.declared.Board.{Board}
 use Rattle.registers.specs.declared.Mode.the-variants.{Write, Read}
 use Rattle.registers.specs.declared.Transfer.{Transfer}
 use Rattle.registers.specs.declared.Command.{Command}
@@ -44,11 +45,12 @@ use Rattle.laws.proofs.KeptMoveLaws.{arc-begins}
 
 -- ---- commands
 
-pub reset-kept : (r : Registers) → SoundSet r → SoundSet (resetDone r)
+pub reset-kept : {board : Board} (r : Registers) → SoundSet board r → SoundSet board (resetDone r)
 unfolding resetDone
 reset-kept r l =
     let ended = putWork (putBuffer (putMode r Write) emptyBuffer) Idle in
-    let still : SoundSet ended = turn-kept r l Write emptyBuffer Idle (empty-queue Write) (idle (r .drawing) (r .video .zoom) Write refl) in
+    let still : SoundSet board ended =
+    turn-kept r l Write emptyBuffer Idle (empty-queue Write) (idle (r .drawing) (r .video .zoom) Write refl) in
     let dark = putVideo ended (putDisplay (r .video) false) in
     progress-kept dark (video-kept ended still refl (putDisplay (r .video) false)) (begun Reset 0) (omega arith)
 
@@ -79,38 +81,38 @@ fresh-drawing : (f : Drawing) → DrawingFits f → DrawingFits (freshDrawing f)
 fresh-drawing f s =
     record { kind = s .kind; dir = s .dir; dc = omega arith; d = omega arith; d2 = omega arith; d1 = omega arith; dm = omega arith }
 
-module _ (r : Registers) (l : SoundSet r) (e : r .work ≡ Idle) where
-  turned-kept : (b : Buffer) → Queue Read b → SoundSet (turned r b)
+module _ {board : Board} (r : Registers) (l : SoundSet board r) (e : r .work ≡ Idle) where
+  turned-kept : (b : Buffer) → Queue Read b → SoundSet board (turned r b)
   turned-kept b q = turn-kept r l Read b (r .work) q (idle (r .drawing) (r .video .zoom) Read e)
 
-  read-kept : (t : Transfer) → SoundSet (readBegun t r)
+  read-kept : (t : Transfer) → SoundSet board (readBegun t r)
   unfolding readBegun
   read-kept t =
-      let after : SoundSet (turned r emptyBuffer) = turned-kept emptyBuffer (empty-queue Read) in
-      cases SoundSet (ltb 0 (r .drawing .dc))
+      let after : SoundSet board (turned r emptyBuffer) = turned-kept emptyBuffer (empty-queue Read) in
+      cases (SoundSet board) (ltb 0 (r .drawing .dc))
       (λ p. work-kept (turned r emptyBuffer) after (Reading 0 t)
       (record { place = ltb-true 0 (r .drawing .dc) p; mode = refl; start = tt }))
       (λ p. after)
 
   module _ (write : r .mode ≡ Write) where
-    figure-begins : SoundSet (figureBegun r)
+    figure-begins : SoundSet board (figureBegun r)
     unfolding figureBegun
     figure-begins =
-        cases SoundSet (ltb 0 (dotsOf (r .drawing)))
+        cases (SoundSet board) (ltb 0 (dotsOf (r .drawing)))
         (λ p. work-kept r l (Figure 0 (r .drawing .d))
         (record { place = (ltb-true 0 (dotsOf (r .drawing)) p, l .drawing .d); mode = write; start = tt }))
         (λ p. l)
 
-    figd-kept : SoundSet (figdTaken r)
+    figd-kept : SoundSet board (figdTaken r)
     unfolding figdTaken
-    figd-kept = either SoundSet (eqb (r .drawing .kind) arcKind) (arc-begins r l write) figure-begins
+    figd-kept = either (SoundSet board) (eqb (r .drawing .kind) arcKind) (arc-begins r l write) figure-begins
 
-    character-begins : SoundSet (characterBegun r)
+    character-begins : SoundSet board (characterBegun r)
     unfolding characterBegun
     character-begins =
         let rows = rowsOf (r .drawing) (r .video .zoom) in
         let columns = columnsOf (r .drawing) (r .video .zoom) in
-        cases SoundSet (ltb 0 rows && ltb 0 columns)
+        cases (SoundSet board) (ltb 0 rows && ltb 0 columns)
         (λ p. work-kept r l (Character 0 0 (r .cursor))
         (record {
           place = (
@@ -123,7 +125,7 @@ module _ (r : Registers) (l : SoundSet r) (e : r .work ≡ Idle) where
         }))
         (λ p. l)
 
-    command-by : (c : Command) (b : ℕ) → SoundSet (commandBy c b r)
+    command-by : (c : Command) (b : ℕ) → SoundSet board (commandBy c b r)
     command-by Nothing b = l
     command-by Reset b = reset-kept r l
     command-by Vsync b = video-kept r l e _
@@ -145,7 +147,8 @@ module _ (r : Registers) (l : SoundSet r) (e : r .work ≡ Idle) where
     command-by (Rdat t) b = read-kept t
     command-by Unknown b = l
 
-pub command-kept : (b : ℕ) (r : Registers) → SoundSet r → r .work ≡ Idle → r .mode ≡ Write → SoundSet (commandTaken b r)
+pub command-kept : {board : Board} (b : ℕ) (r : Registers) → SoundSet board r → r .work ≡ Idle → r .mode ≡ Write
+    → SoundSet board (commandTaken b r)
 unfolding commandTaken
 command-kept b r l e write =
     let first : begun (commandOf b) b .next ≤ 16 = either (λ (n : ℕ). n ≤ 16) (within 0x70 0x7F b) (omega arith) (omega arith) in
@@ -195,12 +198,12 @@ word-fits (suc (suc (suc (suc (suc zero))))) h c s = omega (arith, s .mask)
 word-fits (suc (suc (suc (suc (suc (suc zero)))))) h c s = omega (arith, s .mask)
 word-fits (suc (suc (suc (suc (suc (suc (suc d))))))) h c s = omega (arith, s .mask)
 
-module _ (n : ℕ) (r : Registers) (m : List ℕ) (w : Whole n (state r m)) where
+module _ {board : Board} (n : ℕ) (r : Registers) (m : List ℕ) (w : Whole board n (state r m)) where
   -- the registers changed and the memory left
-  left : {q : Registers} → SoundSet q → Whole n (state q m)
+  left : {q : Registers} → SoundSet board q → Whole board n (state q m)
   left l = record { regs = l; words = w .words; long = w .long }
 
-  set-kept : (t : Transfer) → SoundSet (setDone t r)
+  set-kept : (t : Transfer) → SoundSet board (setDone t r)
   unfolding setDone
   set-kept t =
       let moved = wordMoveOf (r .drawing .dir) (r .pitch) (r .cursor) in
@@ -208,15 +211,15 @@ module _ (n : ℕ) (r : Registers) (m : List ℕ) (w : Whole n (state r m)) wher
       (word-fits (r .drawing .dir) (r .pitch) (r .cursor) (w .regs .cursor)))
       (wdatProgress t 0 0) (omega arith)
 
-  wdat-kept : (t : Transfer) (i v : ℕ) → Whole n (wdatTaken t i v r m)
+  wdat-kept : (t : Transfer) (i v : ℕ) → Whole board n (wdatTaken t i v r m)
   unfolding wdatTaken
   wdat-kept t i v =
-      either (Whole n) (halfB t i)
+      either (Whole board n) (halfB t i)
       (left (progress-kept r (w .regs) (wdatProgress t 1 v) (omega arith)))
-      (cycle-kept n (r .op) (wdatPattern t (r .progress .low) v) r (setDone t r) m w (set-kept t))
+      (cycle-kept n (r .board .wiring) (r .op) (wdatPattern t (r .progress .low) v) r (setDone t r) m w (set-kept t))
 
   module _ (e : r .work ≡ Idle) (i v : ℕ) (byte : v < 256) where
-    parameter-by : (c : Command) → Whole n (parameterBy c i v r m)
+    parameter-by : (c : Command) → Whole board n (parameterBy c i v r m)
     unfolding ramBy pitchBy
     parameter-by Nothing = w
     parameter-by Reset = left (video-kept r (w .regs) e (syncBy i v (r .video)))
@@ -226,8 +229,9 @@ module _ (n : ℕ) (r : Registers) (m : List ℕ) (w : Whole n (state r m)) wher
     parameter-by Zoom = left (video-kept r (w .regs) e (zoomBy i v (r .video)))
     parameter-by Curs = left (cursor-kept r (w .regs) (cursBy i v (r .cursor)) (curs-fits i v byte (r .cursor) (w .regs .cursor)))
     parameter-by Pram =
-        left (either SoundSet (ltb i 16) (ram-kept r (w .regs) (set (r .ram) i v) (length-set (r .ram) i v ∙ w .regs .ram)) (w .regs))
-    parameter-by Pitch = left (either SoundSet (eqb i 0) (plain-kept r (w .regs) v (r .op)) (w .regs))
+        left (either (SoundSet board) (ltb i 16)
+        (ram-kept r (w .regs) (set (r .ram) i v) (length-set (r .ram) i v ∙ w .regs .ram)) (w .regs))
+    parameter-by Pitch = left (either (SoundSet board) (eqb i 0) (plain-kept r (w .regs) v (r .op)) (w .regs))
     parameter-by Mask = left (cursor-kept r (w .regs) (maskBy i v (r .cursor)) (mask-fits i v byte (r .cursor) (w .regs .cursor)))
     parameter-by Figs = left (drawing-kept r (w .regs) e (figsBy i v (r .drawing)) (figs-fits i v byte (r .drawing) (w .regs .drawing)))
     parameter-by Figd = w
@@ -238,7 +242,8 @@ module _ (n : ℕ) (r : Registers) (m : List ℕ) (w : Whole n (state r m)) wher
     parameter-by (Rdat t) = w
     parameter-by Unknown = w
 
-pub parameter-kept : (n v : ℕ) (s : State) → Whole n s → s .regs .work ≡ Idle → v < 256 → Whole n (parameterTaken v s)
+pub parameter-kept : {board : Board} (n v : ℕ) (s : State) → Whole board n s → s .regs .work ≡ Idle → v < 256
+    → Whole board n (parameterTaken v s)
 unfolding parameterTaken nextOf
 parameter-kept n v s w e byte =
     let p = s .regs .progress in
@@ -248,8 +253,9 @@ parameter-kept n v s w e byte =
     (record { regs = progress-kept (s .regs) (w .regs) (counted p) few; words = w .words; long = w .long })
     e (p .next) v byte (p .command)
 
-pub entry-kept : (n a : ℕ) (s : State) → Whole n s → s .regs .work ≡ Idle → s .regs .mode ≡ Write → Whole n (entryTaken a s)
+pub entry-kept : {board : Board} (n a : ℕ) (s : State) → Whole board n s → s .regs .work ≡ Idle → s .regs .mode ≡ Write
+    → Whole board n (entryTaken a s)
 unfolding entryTaken
 entry-kept n a s w e write =
-    cases (Whole n) (ltb a 256) (λ t. parameter-kept n a s w e (ltb-true a 256 t))
+    cases (Whole board n) (ltb a 256) (λ t. parameter-kept n a s w e (ltb-true a 256 t))
     (λ t. left n (s .regs) (s .mem) w (command-kept (a % 256) (s .regs) (w .regs) e write))

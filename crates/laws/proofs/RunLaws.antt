@@ -7,6 +7,7 @@ use native.Mathlib.Omega.{arith}
 use lib.Dec.{eqb}
 use lib.ListN.{length}
 use borrow.Author.Tests.{eqb-true, eqb-false, ne-eqb}
+use Rattle.registers.specs.declared.Board.{Board}
 use Rattle.registers.specs.declared.Mode.{Mode}
 use Rattle.registers.specs.declared.Mode.the-variants.{Write, Read}
 use Rattle.registers.specs.declared.Work.{Work}
@@ -17,7 +18,7 @@ use Rattle.registers.specs.Sound.{soundB}
 use Rattle.registers.specs.State.{State}
 use Rattle.figures.specs.Reading.{roomB, readUnit}
 use Rattle.units.specs.Unit.{fetchBy, unitBy, unitDone}
-use Rattle.units.specs.Run.{waiting, reasonBy, reasonOf, unitsDone, Outcome, outcome, stopped, runFrom, lengthB, runRefused, runBy, runDone}
+use Rattle.units.specs.Run.{waiting, reasonBy, reasonOf, unitsDone, Outcome, outcome, stopped, runFrom, lengthB, fittedB, runRefused, runBy, runDone}
 use Rattle.laws.proofs.BranchLaws.{either, cases}
 use Rattle.laws.proofs.KeptLaws.{Whole, lawful-sound}
 use Rattle.laws.proofs.KeptUnitLaws.{leftBy, run-from-kept}
@@ -230,7 +231,7 @@ run-from-joined a b s y =
 -- ---- the entry, with its refusals
 
 module _ (budget : ℕ) (s : State) where
-  pub run-granted : soundB (s .regs) ≡ true → lengthB (length (s .mem)) ≡ true → runDone budget s ≡ runFrom budget 0 s
+  pub run-granted : soundB (s .regs) ≡ true → fittedB s ≡ true → runDone budget s ≡ runFrom budget 0 s
   unfolding runDone
   run-granted e h = rw (e, h)
 
@@ -238,14 +239,14 @@ module _ (budget : ℕ) (s : State) where
   unfolding runDone
   run-unsound e = rw e
 
-  pub run-wrong-length : soundB (s .regs) ≡ true → lengthB (length (s .mem)) ≡ false → runDone budget s ≡ runRefused 2 s
+  pub run-wrong-length : soundB (s .regs) ≡ true → fittedB s ≡ false → runDone budget s ≡ runRefused 2 s
   unfolding runDone
   run-wrong-length e h = rw (e, h)
 
-  pub run-reason : soundB (s .regs) ≡ true → lengthB (length (s .mem)) ≡ true → Reasoned budget s (runDone budget s)
+  pub run-reason : soundB (s .regs) ≡ true → fittedB s ≡ true → Reasoned budget s (runDone budget s)
   run-reason e h = subst (Reasoned budget s) (sym (run-granted e h)) (run-from-reason budget s)
 
-  pub run-idle : soundB (s .regs) ≡ true → lengthB (length (s .mem)) ≡ true → 0 < budget → (reasonOf (s .regs) ≡ 0 → ⊥)
+  pub run-idle : soundB (s .regs) ≡ true → fittedB s ≡ true → 0 < budget → (reasonOf (s .regs) ≡ 0 → ⊥)
       → runDone budget s ≡ stopped s 0 (reasonOf (s .regs))
   run-idle e h some n = run-granted e h ∙ run-from-idle budget 0 s some n
 
@@ -258,7 +259,7 @@ module _ (budget : ℕ) (s : State) where
   -- a run leaves what as many steps of the definition make as it counts; a refused one counts none
   pub run-counts : leftBy (runDone budget s) ≡ unitsDone (runDone budget s .ran .count) s
   unfolding runDone
-  run-counts = run-by-counts (soundB (s .regs)) (lengthB (length (s .mem)))
+  run-counts = run-by-counts (soundB (s .regs)) (fittedB s)
 
   run-by-within : (t u : Bool) → runBy t u budget s .ran .count ≤ budget
   run-by-within false u = omega arith
@@ -267,15 +268,18 @@ module _ (budget : ℕ) (s : State) where
 
   pub run-within : runDone budget s .ran .count ≤ budget
   unfolding runDone
-  run-within = run-by-within (soundB (s .regs)) (lengthB (length (s .mem)))
+  run-within = run-by-within (soundB (s .regs)) (fittedB s)
 
--- two runs are one also through the entry: the first leaves a sound set and a memory of the same length
-module _ (n : ℕ) (right : lengthB n ≡ true) (s : State) (w : Whole n s) where
+-- two runs are one also through the entry: the first leaves a sound set of the same board and a memory of the same length
+module _ {board : Board} (n : ℕ) (right : lengthB (board .wiring) n ≡ true) (s : State) (w : Whole board n s) where
+  pub still-right : fittedB s ≡ true
+  still-right = (λ i. lengthB (w .regs .same i .wiring) (w .long i)) ∙ right
+
   pub run-whole : (budget : ℕ) → runDone budget s ≡ runFrom budget 0 s
-  run-whole budget = run-granted budget s (lawful-sound (s .regs) (w .regs)) (ap lengthB (w .long) ∙ right)
+  run-whole budget = run-granted budget s (lawful-sound (s .regs) (w .regs)) still-right
 
-pub run-joined : (n : ℕ) → lengthB n ≡ true → (s : State) → Whole n s → (a b : ℕ) → runDone a s .ran .why ≡ 1
-    → runDone (a + b) s ≡ further a (runDone b (leftBy (runDone a s)))
+pub run-joined : {board : Board} (n : ℕ) → lengthB (board .wiring) n ≡ true → (s : State) → Whole board n s → (a b : ℕ)
+    → runDone a s .ran .why ≡ 1 → runDone (a + b) s ≡ further a (runDone b (leftBy (runDone a s)))
 run-joined n right s w a b y =
     let first : runDone a s ≡ runFrom a 0 s = run-whole n right s w a in
     run-whole n right s w (a + b)

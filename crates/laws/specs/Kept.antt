@@ -14,9 +14,11 @@ use Rattle.registers.specs.Typed.{Typed, Words}
 use Rattle.ports.specs.Port.{commandWritten, parameterWritten, byteRead, statusRead, penPosted}
 use Rattle.units.specs.Run.{runDone}
 
--- of a sound set it makes a sound one, and of what the types say it loses nothing: so one entry may follow another
+-- of a sound set it makes a sound one, and of what the types say it loses nothing: so one entry may follow another. And the board stays
+-- what it is (02, M-108: no entry changes the wiring)
 abbrev pub KeepsSound : (Registers → Registers) → Type 0
-KeepsSound after = (r : Registers) → Typed r → soundB r ≡ true → (soundB (after r) ≡ true) × Typed (after r)
+KeepsSound after =
+    (r : Registers) → Typed r → soundB r ≡ true → (soundB (after r) ≡ true) × (Typed (after r) × (after r .board ≡ r .board))
 
 pub record EveryEntryKeepsSound : Type 0 where
   -- a byte to the command port, a byte to the parameter port

@@ -15,6 +15,7 @@ use Rattle.registers.specs.declared.Mode.the-variants.{Write, Read}
 use Rattle.registers.specs.declared.Work.{Work}
 use Rattle.registers.specs.declared.Work.the-variants.{Idle, Figure, Arc, Character, Reading}
 use Rattle.registers.specs.declared.Buffer.{Buffer}
+use Rattle.registers.specs.declared.Board.{Board}
 use Rattle.registers.specs.declared.Registers.{Registers}
 use Rattle.registers.specs.Fresh.{emptyBuffer}
 use Rattle.registers.specs.Sound.{writeB}
@@ -27,11 +28,11 @@ use Rattle.settings.specs.declared.Settled.{Settled}
 use Rattle.settings.specs.Settings.{Taken, Settlement, settableB, putSettings, settingsOf, settingTaken, settled, oneMore, settleAll}
 use Rattle.settings.proofs.SettingsLaws.{settable-below, settable-no-reset, entry-setting}
 use Rattle.units.specs.declared.Ran.{Ran}
-use Rattle.units.specs.Run.{outcome, reasonOf, stopped, lengthB, runFrom}
+use Rattle.units.specs.Run.{outcome, reasonOf, stopped, lengthB, fittedB, runFrom}
 use Rattle.laws.proofs.BranchLaws.{either, cases}
-use Rattle.laws.proofs.KeptLaws.{Whole, buffer-kept}
+use Rattle.laws.proofs.KeptLaws.{Whole, own, buffer-kept}
 use Rattle.laws.proofs.KeptBufferLaws.{empty-queue}
-use Rattle.laws.proofs.RunLaws.{run-within, run-from-idle}
+use Rattle.laws.proofs.RunLaws.{run-within, run-from-idle, still-right}
 use Rattle.sending.specs.Send.{written, fullBudget, Reply, sent, left}
 use Rattle.sending.proofs.KeptLaws.{sent-kept}
 use Rattle.sending.proofs.WaitLaws.{Waiting, drained, takenBy}
@@ -42,11 +43,11 @@ use Rattle.lists.specs.Quick.{withOne, begunBy, setBy, setAt, firstSent}
 use Rattle.sends.proofs.SendLaws.{wentOn, ended, one-taken, alone-number, alone-taken, goes-no-further, next-entry}
 
 -- the first entries of a list, all taken: what is left to send then is what was to send before
-pub record Part (n : ℕ) (s : State) (l : List ℕ) (o : ListOutcome) : Type 0 where
+pub record Part (board : Board) (n : ℕ) (s : State) (l : List ℕ) (o : ListOutcome) : Type 0 where
   pub some : 0 < o .list .taken
   pub within : o .list .taken ≤ length l
   pub few : o .list .units ≤ mostListed * o .list .taken
-  pub whole : Whole n (state (o .list .regs) (o .mem))
+  pub whole : Whole board n (state (o .list .regs) (o .mem))
   pub on : (k u : ℕ)
       → wentOn k u s l ≡ wentOn (k + o .list .taken) (u + o .list .units) (state (o .list .regs) (o .mem)) (drop (o .list .taken) l)
 
@@ -84,20 +85,20 @@ module _ (r : Registers) (e : ℕ) (now : atOnceB (r .mode) (r .work) (r .buffer
   idles (Character y x start) h = absurd (false-true h)
   idles (Reading i t) h = absurd (false-true h)
 
-  at-once-waits : (n : ℕ) (m : List ℕ) → Whole n (state r m) → Waiting r
+  at-once-waits : {board : Board} (n : ℕ) (m : List ℕ) → Whole board n (state r m) → Waiting r
   at-once-waits n m w = record {
-    lawful = w .regs;
+    lawful = own r (w .regs);
     mode = writes (r .mode) (and-left (writeB (r .mode)) _ waits);
     idle = idles (r .work) (and-right (writeB (r .mode)) _ waits);
     empty = eqb-true (r .buffer .count) 0 (and-right waitsB _ (and-left emptyB _ other));
   }
 
 -- ---- one entry, through its port or at once
-module _ (n : ℕ) (right : lengthB n ≡ true) where
-  one-part : (s : State) → Whole n s → (e : ℕ) (l : List ℕ) → sent s e .port .number ≡ 0 → Part n s (e ∷ l) (listTaken s (e ∷ []))
+module _ {board : Board} (n : ℕ) (right : lengthB (board .wiring) n ≡ true) where
+  one-part : (s : State) → Whole board n s → (e : ℕ) (l : List ℕ) → sent s e .port .number ≡ 0 → Part board n s (e ∷ l) (listTaken s (e ∷ []))
   unfolding sent
   one-part s w e l z =
-      subst (Part n s (e ∷ l)) (sym (alone-taken s e z))
+      subst (Part board n s (e ∷ l)) (sym (alone-taken s e z))
       (record {
         some = omega arith;
         within = omega arith;
@@ -106,10 +107,10 @@ module _ (n : ℕ) (right : lengthB n ≡ true) where
         on = λ k u. one-taken k u s e l z;
       })
 
-  module _ (r : Registers) (m : List ℕ) (w : Whole n (state r m)) (e : ℕ) (l : List ℕ)
+  module _ (r : Registers) (m : List ℕ) (w : Whole board n (state r m)) (e : ℕ) (l : List ℕ)
       (v : Waiting r) (small : e < 512) (other : e ≡ 256 → ⊥) where
-    long : lengthB (length m) ≡ true
-    long = ap lengthB (w .long) ∙ right
+    long : fittedB (state r m) ≡ true
+    long = still-right n right (state r m) w
 
     accepted : sent (state r m) e .port .number ≡ 0
     accepted = ap (λ (q : Reply). q .port .number) (taken-at-once r m e v small other long)
@@ -123,16 +124,16 @@ module _ (n : ℕ) (right : lengthB n ≡ true) where
         ∙ ap (λ (x : Reply). ended 0 1 (x .run .ran .count) (left x)) (taken-at-once r m e v small other long)
         ∙ ap (λ (k : ℕ). ended 0 1 k (state (q .ran .regs) (q .mem))) f
 
-    pub begun-part : Part n (state r m) (e ∷ l) (begunBy e (state r m))
-    begun-part = subst (Part n (state r m) (e ∷ l)) begun-is (one-part (state r m) w e l accepted)
+    pub begun-part : Part board n (state r m) (e ∷ l) (begunBy e (state r m))
+    begun-part = subst (Part board n (state r m) (e ∷ l)) begun-is (one-part (state r m) w e l accepted)
 
   -- ---- a controller that waits, with its buffer empty, whatever its settings
   module _ (r : Registers) (write : r .mode ≡ Write) (idle : r .work ≡ Idle) where
     abbrev with : Settings → List ℕ → State
     with p m = state (putSettings (drained r) p) m
 
-    waits-with : (p : Settings) (m : List ℕ) → Whole n (with p m) → Waiting (putSettings (drained r) p)
-    waits-with p m w = record { lawful = w .regs; mode = write; idle = idle; empty = refl }
+    waits-with : (p : Settings) (m : List ℕ) → Whole board n (with p m) → Waiting (putSettings (drained r) p)
+    waits-with p m w = record { lawful = own (putSettings (drained r) p) (w .regs); mode = write; idle = idle; empty = refl }
 
     still : (p : Settings) → reasonOf (putSettings (drained r) p) ≡ 0 → ⊥
     unfolding reasonOf
@@ -141,10 +142,10 @@ module _ (n : ℕ) (right : lengthB n ≡ true) where
     -- so many entries were set: a unit each
     record Sets (s : State) (l : List ℕ) (q : Settlement) : Type 0 where
       within : q .count ≤ length l
-      whole : Whole n (with (q .settings) (q .mem))
+      whole : Whole board n (with (q .settings) (q .mem))
       on : (k u : ℕ) → wentOn k u s l ≡ wentOn (k + q .count) (u + q .count) (with (q .settings) (q .mem)) (drop (q .count) l)
 
-    sets-none : (p : Settings) (m l : List ℕ) → Whole n (with p m) → Sets (with p m) l (record { settings = p; count = 0; mem = m })
+    sets-none : (p : Settings) (m l : List ℕ) → Whole board n (with p m) → Sets (with p m) l (record { settings = p; count = 0; mem = m })
     sets-none p m l w = record {
       within = omega arith;
       whole = w;
@@ -152,7 +153,7 @@ module _ (n : ℕ) (right : lengthB n ≡ true) where
           ap₂ (λ (a b : ℕ). wentOn a b (with p m) l) f g;
     }
 
-    module _ (p : Settings) (m : List ℕ) (w : Whole n (with p m)) (e : ℕ) (l : List ℕ) (t : settableB (p .progress .command) e ≡ true) where
+    module _ (p : Settings) (m : List ℕ) (w : Whole board n (with p m)) (e : ℕ) (l : List ℕ) (t : settableB (p .progress .command) e ≡ true) where
       abbrev next : Taken
       next = settingTaken e p m
 
@@ -165,9 +166,9 @@ module _ (n : ℕ) (right : lengthB n ≡ true) where
           ap (λ (x : State). withOne (runFrom 4294967294 0 x)) (entry-setting (drained r) e p m t)
           ∙ ap withOne (run-from-idle 4294967294 0 after (omega arith) (still (next .settings)))
 
-      set-part : Part n (with p m) (e ∷ l) (withOne (stopped after 0 (reasonOf (after .regs))))
+      set-part : Part board n (with p m) (e ∷ l) (withOne (stopped after 0 (reasonOf (after .regs))))
       set-part =
-          subst (Part n (with p m) (e ∷ l)) set-is
+          subst (Part board n (with p m) (e ∷ l)) set-is
           (begun-part (putSettings (drained r) p) m w e l (waits-with p m w) (settable-below _ e t) (settable-no-reset _ e t))
 
       sets-one : (q : Settlement) → Sets after l q → Sets (with p m) (e ∷ l) (oneMore q)
@@ -180,7 +181,7 @@ module _ (n : ℕ) (right : lengthB n ≡ true) where
             ∙ ap₂ (λ (a b : ℕ). wentOn a b (with (q .settings) (q .mem)) (drop (q .count) l)) f g;
       }
 
-    sets : (l : List ℕ) (p : Settings) (m : List ℕ) → Whole n (with p m) → Sets (with p m) l (settleAll p l m)
+    sets : (l : List ℕ) (p : Settings) (m : List ℕ) → Whole board n (with p m) → Sets (with p m) l (settleAll p l m)
     unfolding settleAll
     sets [] p m w = sets-none p m [] w
     sets (e ∷ l) p m w =
@@ -197,22 +198,22 @@ module _ (n : ℕ) (right : lengthB n ≡ true) where
       cases (λ (q : Settlement). q .count ≡ 0 → q .mem ≡ m) (settableB (p .progress .command) e) (λ t y. absurd (omega arith))
       (λ t y. refl) z
 
-  module _ (s : State) (w : Whole n s) (e : ℕ) (l : List ℕ) where
+  module _ (s : State) (w : Whole board n s) (e : ℕ) (l : List ℕ) where
     abbrev r : Registers
     r = s .regs
 
     abbrev nowB : Bool
     nowB = atOnceB (r .mode) (r .work) (r .buffer .count) e
 
-    empties : Whole n (state (drained r) (s .mem))
+    empties : Whole board n (state (drained r) (s .mem))
     empties = record { regs = buffer-kept r (w .regs) emptyBuffer (empty-queue (r .mode)); words = w .words; long = w .long }
 
     module _ (now : nowB ≡ true) where
       v : Waiting r
       v = at-once-waits r e now n (s .mem) w
 
-      first-part : (q : Registers) → Whole n (state q (s .mem)) → Waiting q
-          → Part n (state q (s .mem)) (e ∷ l) (begunBy e (state q (s .mem)))
+      first-part : (q : Registers) → Whole board n (state q (s .mem)) → Waiting q
+          → Part board n (state q (s .mem)) (e ∷ l) (begunBy e (state q (s .mem)))
       first-part q h x = begun-part q (s .mem) h e l x (at-once-below r e now) (at-once-no-reset r e now)
 
       -- what stood in the empty buffer has no part in it
@@ -223,7 +224,7 @@ module _ (n : ℕ) (right : lengthB n ≡ true) where
           ∙ sym (first-part (drained r) empties (waits-with r (v .mode) (v .idle) (settingsOf r) (s .mem) empties) .on k u)
 
       settled-part : (0 < settleAll (settingsOf r) (e ∷ l) (s .mem) .count)
-          → Part n s (e ∷ l) (setBy r (settleAll (settingsOf r) (e ∷ l) (s .mem)))
+          → Part board n s (e ∷ l) (setBy r (settleAll (settingsOf r) (e ∷ l) (s .mem)))
       settled-part some =
           let all = sets r (v .mode) (v .idle) (e ∷ l) (settingsOf r) (s .mem) empties in
           record {
@@ -234,10 +235,10 @@ module _ (n : ℕ) (right : lengthB n ≡ true) where
             on = λ k u. drained-on k u ∙ all .on k u;
           }
 
-    pub set-some : 0 < setAt e (e ∷ l) s .count → Part n s (e ∷ l) (setBy r (setAt e (e ∷ l) s))
+    pub set-some : 0 < setAt e (e ∷ l) s .count → Part board n s (e ∷ l) (setBy r (setAt e (e ∷ l) s))
     unfolding setAt
     set-some =
-        cases (λ (q : Settlement). 0 < q .count → Part n s (e ∷ l) (setBy r q)) nowB (λ t. settled-part t) (λ t h. absurd (omega arith))
+        cases (λ (q : Settlement). 0 < q .count → Part board n s (e ∷ l) (setBy r q)) nowB (λ t. settled-part t) (λ t h. absurd (omega arith))
 
     pub set-none : setAt e (e ∷ l) s .count ≡ 0 → setAt e (e ∷ l) s .mem ≡ s .mem
     unfolding setAt
@@ -245,10 +246,10 @@ module _ (n : ℕ) (right : lengthB n ≡ true) where
         either (λ (q : Settlement). q .count ≡ 0 → q .mem ≡ s .mem) nowB (unset (e ∷ l) (settingsOf r) (s .mem)) (λ z. refl)
 
     -- one entry that is taken, and one that is refused
-    pub first-taken : firstSent e s .list .number ≡ 0 → Part n s (e ∷ l) (firstSent e s)
+    pub first-taken : firstSent e s .list .number ≡ 0 → Part board n s (e ∷ l) (firstSent e s)
     unfolding firstSent
     first-taken =
-        cases (λ (o : ListOutcome). o .list .number ≡ 0 → Part n s (e ∷ l) o) nowB (λ t z. first-part t r w (v t))
+        cases (λ (o : ListOutcome). o .list .number ≡ 0 → Part board n s (e ∷ l) o) nowB (λ t z. first-part t r w (v t))
         (λ t z. one-part s w e l (sym (alone-number s e) ∙ z))
 
     pub first-refused : (k u : ℕ) → (firstSent e s .list .number ≡ 0 → ⊥)
@@ -286,18 +287,18 @@ module _ (e : ℕ) (l : List ℕ) (s : State) {t : Bool} (is : t ≡ atOnceB (s 
   goes-by-port y a = a ∙ rw (sym is ∙ y)
 
 -- ---- the loop: k entries of a list were taken with u units, and what is left to send is what was to send from the start
-pub record Going (n : ℕ) (entries : List ℕ) (s₀ s : State) (u k : ℕ) : Type 0 where
-  pub right : lengthB n ≡ true
+pub record Going (board : Board) (n : ℕ) (entries : List ℕ) (s₀ s : State) (u k : ℕ) : Type 0 where
+  pub right : lengthB (board .wiring) n ≡ true
   pub short : length entries ≤ mostListed
   pub within : k ≤ length entries
   pub few : u ≤ mostListed * k
-  pub whole : Whole n s
+  pub whole : Whole board n s
   pub rest : listTaken s₀ entries ≡ wentOn k u s (drop k entries)
 
-pub units-fit : {n : ℕ} {entries : List ℕ} {s₀ s : State} {u k : ℕ} → Going n entries s₀ s u k → u ≤ 4294967295 * 4294967295
+pub units-fit : {board : Board} {n : ℕ} {entries : List ℕ} {s₀ s : State} {u k : ℕ} → Going board n entries s₀ s u k → u ≤ 4294967295 * 4294967295
 units-fit g = omega (arith, g .few, g .within, g .short)
 
-module _ {n : ℕ} {entries : List ℕ} {s₀ s : State} {u k : ℕ} (g : Going n entries s₀ s u k) (more : k < length entries) where
+module _ {board : Board} {n : ℕ} {entries : List ℕ} {s₀ s : State} {u k : ℕ} (g : Going board n entries s₀ s u k) (more : k < length entries) where
   abbrev e : ℕ
   e = getD entries k 0
 
@@ -307,10 +308,10 @@ module _ {n : ℕ} {entries : List ℕ} {s₀ s : State} {u k : ℕ} (g : Going 
   rest-is : drop k entries ≡ e ∷ later
   rest-is = next-entry entries k more
 
-  part-on : {o : ListOutcome} → Part n s (e ∷ later) o
-      → Going n entries s₀ (state (o .list .regs) (o .mem)) (u + o .list .units) (k + o .list .taken)
+  part-on : {o : ListOutcome} → Part board n s (e ∷ later) o
+      → Going board n entries s₀ (state (o .list .regs) (o .mem)) (u + o .list .units) (k + o .list .taken)
   part-on {o} first =
-      let part : Part n s (drop k entries) o = subst (λ (l : List ℕ). Part n s l o) (sym rest-is) first in
+      let part : Part board n s (drop k entries) o = subst (λ (l : List ℕ). Part board n s l o) (sym rest-is) first in
       record {
         right = g .right;
         short = g .short;
@@ -326,10 +327,10 @@ module _ {n : ℕ} {entries : List ℕ} {s₀ s : State} {u k : ℕ} (g : Going 
     all-is = is ∙ ap (λ (l : List ℕ). setAt e l s) rest-is
 
     pub sets-on : {a : Registers} → 0 < q .count → a ≡ putSettings (putBuffer (s .regs) emptyBuffer) (q .settings)
-        → Going n entries s₀ (state a m) (u + q .count) (k + q .count)
+        → Going board n entries s₀ (state a m) (u + q .count) (k + q .count)
     sets-on some h =
         rw h
-        (part-on (subst (λ (x : Settlement). Part n s (e ∷ later) (setBy (s .regs) x)) (sym all-is)
+        (part-on (subst (λ (x : Settlement). Part board n s (e ∷ later) (setBy (s .regs) x)) (sym all-is)
         (set-some n (g .right) s (g .whole) e later (rw (← all-is) some))))
 
     module _ {o : ListOutcome} (none : q .count ≤ 0) (one : o ≡ firstSent e (state (s .regs) m)) where
@@ -341,16 +342,16 @@ module _ {n : ℕ} {entries : List ℕ} {s₀ s : State} {u k : ℕ} (g : Going 
           ∙ set-none n (g .right) s (g .whole) e later (ap (λ (x : Settlement). x .count) (sym all-is) ∙ z) in
           one ∙ ap (λ (x : List ℕ). firstSent e (state (s .regs) x)) same
 
-      taken-part : o .list .number ≡ 0 → Part n s (e ∷ later) o
+      taken-part : o .list .number ≡ 0 → Part board n s (e ∷ later) o
       taken-part z =
-          subst (Part n s (e ∷ later)) (sym first-is)
+          subst (Part board n s (e ∷ later)) (sym first-is)
           (first-taken n (g .right) s (g .whole) e later (ap (λ (x : ListOutcome). x .list .number) (sym first-is) ∙ z))
 
       pub sends-some : o .list .number ≡ 0 → 0 < o .list .taken
       sends-some z = taken-part z .some
 
       pub sends-on : o .list .number ≡ 0
-          → Going n entries s₀ (state (o .list .regs) (o .mem)) (u + o .list .units) (k + o .list .taken)
+          → Going board n entries s₀ (state (o .list .regs) (o .mem)) (u + o .list .units) (k + o .list .taken)
       sends-on z = part-on (taken-part z)
 
       pub sends-no-more : (o .list .number ≡ 0 → ⊥) → ended (o .list .number) k u (state (s .regs) (o .mem)) ≡ listTaken s₀ entries

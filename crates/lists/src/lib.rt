@@ -20,12 +20,14 @@ ghost use Rattle.lists.specs.Quick.{begunBy, setAt, firstSent};
 fn settings_of(r: Registers) -> Settings
     ensures { λ p. ⌜ p ≡ settingsOf r ⌝ }
 {
+    let board = r.board;
     let cursor = r.cursor;
     let drawing = r.drawing;
     let op = r.op;
     let ram = r.ram;
     let progress = r.progress;
     Settings {
+        board: board,
         cursor: cursor,
         pitch: r.pitch,
         drawing: drawing,
@@ -45,6 +47,7 @@ fn with_settings(r: Registers, p: Settings) -> Registers
     let op = p.op;
     let ram = p.ram;
     let progress = p.progress;
+    let board = p.board;
     let none = processor::command::no_entries();
     let mut video = r.video;
     video.zoom = p.zoom;
@@ -57,6 +60,7 @@ fn with_settings(r: Registers, p: Settings) -> Registers
         video: video,
         buffer: none,
         progress: progress,
+        board: board,
         ..r
     }
 }
@@ -109,7 +113,7 @@ fn send_first(r: Registers, e: u16, mem: &mut [u16]) -> Listed
 
 // The entries in order, up to the first that its port refuses.
 fn send_on(r: Registers, entries: &[u16], mem: &mut [u16]) -> Listed
-    requires { ⌜ (soundB r ≡ true) × ((lengthB (length (now mem)) ≡ true) × (length (now entries) ≤ mostListed)) ⌝ }
+    requires { ⌜ (soundB r ≡ true) × ((lengthB (r .board .wiring) (length (now mem)) ≡ true) × (length (now entries) ≤ mostListed)) ⌝ }
     ensures { λ q. ⌜ listed q (now (mem .exit)) ≡ listTaken (state r (now (mem .entry))) (now (entries .entry)) ⌝ }
 {
     let mut s = r;
@@ -167,7 +171,9 @@ pub fn send_all(r: Registers, entries: &[u16], mem: &mut [u16]) -> Listed
             regs: r,
         };
     }
-    if !units::length_right(mem.len()) {
+    let board = r.board;
+    let wiring = board.wiring;
+    if !units::length_right(wiring, mem.len()) {
         return Listed {
             number: 2,
             taken: 0,

@@ -10,7 +10,7 @@ use lib.Seq.{drop-cons, take-append-seam}
 use borrow.Author.Tests.{eq-eqb, ne-eqb}
 use Rattle.registers.specs.Sound.{soundB}
 use Rattle.registers.specs.State.{State}
-use Rattle.units.specs.Run.{lengthB}
+use Rattle.units.specs.Run.{fittedB}
 use Rattle.replaying.specs.Replay.{Effect, eventDone, Outcome, outcome, noneTaken, behind, allDone, mostReplayed, replayed}
 use Rattle.replaying.proofs.EventLaws.{event-few}
 
@@ -119,11 +119,11 @@ module _ (s : State) (l : List ℕ) where
   unfolding replayed
   way-unsound e = rw e
 
-  pub way-mislong : soundB (s .regs) ≡ true → lengthB (length (s .mem)) ≡ false → noneTaken 2 s ≡ replayed s l
+  pub way-mislong : soundB (s .regs) ≡ true → fittedB s ≡ false → noneTaken 2 s ≡ replayed s l
   unfolding replayed
   way-mislong e f = rw (e, f)
 
-  pub way-done : {o : Outcome} {n : ℕ} → soundB (s .regs) ≡ true → lengthB (length (s .mem)) ≡ true → n ≡ min mostReplayed (length l)
+  pub way-done : {o : Outcome} {n : ℕ} → soundB (s .regs) ≡ true → fittedB s ≡ true → n ≡ min mostReplayed (length l)
       → o ≡ allDone s (take n l) → o ≡ replayed s l
   unfolding replayed
   way-done e f h o = o ∙ rw (e, f) (ap (allDone s) (looked-at l h))

@@ -10,12 +10,14 @@ use lib.Dec.{eqb, ltb}
 use lib.ListN.{length, take, length-append}
 use lib.Seq.{take-all}
 use borrow.Author.Tests.{eqb-true, eqb-false}
+use Rattle.registers.specs.declared.Board.{Board}
 use Rattle.registers.specs.Sound.{soundB}
 use Rattle.registers.specs.State.{State}
-use Rattle.units.specs.Run.{lengthB}
+use Rattle.units.specs.Run.{lengthB, fittedB}
 use Rattle.laws.proofs.BranchLaws.{either}
 use Rattle.laws.proofs.KeptLaws.{Whole, lawful, lawful-sound}
 use Rattle.laws.proofs.KeptUnitLaws.{run-kept}
+use Rattle.laws.proofs.RunLaws.{still-right}
 use Rattle.sending.proofs.PortLaws.{written-kept}
 use Rattle.finishing.specs.Finish.{Outcome as Runs, leftAt as leftBy}
 use Rattle.finishing.proofs.FinishLaws.{finishes}
@@ -51,38 +53,38 @@ parts-done [] b s z = behind-none (allDone s b)
 parts-done (e ∷ a) b s z = one-more e a b s (parts-done a b (eventDone s e .left)) (eqb (eventDone s e .number) 0) refl z
 
 -- ---- lawful sets stay lawful
-module _ (n : ℕ) (right : lengthB n ≡ true) where
-  event-kept : (s : State) → Whole n s → (e : ℕ) → Whole n (eventDone s e .left)
+module _ {board : Board} (n : ℕ) (right : lengthB (board .wiring) n ≡ true) where
+  event-kept : (s : State) → Whole board n s → (e : ℕ) → Whole board n (eventDone s e .left)
   unfolding eventDone runsOf
   event-kept s w e =
-      either (λ (f : Effect). Whole n (f .left)) (ltb e unitsMark)
+      either (λ (f : Effect). Whole board n (f .left)) (ltb e unitsMark)
       (record { regs = written-kept (s .regs) (w .regs) e; words = w .words; long = w .long })
-      (either (λ (o : Runs). Whole n (leftBy o)) (ltb e idleMark) (run-kept n (e % unitsMark) s w) (finishes n right s w .whole))
+      (either (λ (o : Runs). Whole board n (leftBy o)) (ltb e idleMark) (run-kept n (e % unitsMark) s w) (finishes n right s w .whole))
 
-  pub all-kept : (l : List ℕ) (s : State) → Whole n s → Whole n (leftAt (allDone s l))
+  pub all-kept : (l : List ℕ) (s : State) → Whole board n s → Whole board n (leftAt (allDone s l))
   unfolding allDone
   all-kept [] s w = w
   all-kept (e ∷ l) s w =
-      either (λ (o : Outcome). Whole n (leftAt o)) (eqb (eventDone s e .number) 0) (all-kept l (eventDone s e .left) (event-kept s w e)) w
+      either (λ (o : Outcome). Whole board n (leftAt o)) (eqb (eventDone s e .number) 0) (all-kept l (eventDone s e .left) (event-kept s w e)) w
 
 -- ---- a list that is granted: neither 1 nor 2
 module _ (s : State) (l : List ℕ) where
-  pub granted-all : soundB (s .regs) ≡ true → lengthB (length (s .mem)) ≡ true → replayed s l ≡ allDone s (take mostReplayed l)
+  pub granted-all : soundB (s .regs) ≡ true → fittedB s ≡ true → replayed s l ≡ allDone s (take mostReplayed l)
   unfolding replayed
   granted-all e f = rw (e, f)
 
-  pub granted-is : soundB (s .regs) ≡ true → lengthB (length (s .mem)) ≡ true → length l ≤ mostReplayed → replayed s l ≡ allDone s l
+  pub granted-is : soundB (s .regs) ≡ true → fittedB s ≡ true → length l ≤ mostReplayed → replayed s l ≡ allDone s l
   granted-is e f h = granted-all e f ∙ ap (allDone s) (take-all mostReplayed l h)
 
-  granted-by : (x y : Bool) (k : List ℕ) → soundB (s .regs) ≡ x → lengthB (length (s .mem)) ≡ y → replayedBy x y s k .list .number ≡ 0
-      → (soundB (s .regs) ≡ true) × (lengthB (length (s .mem)) ≡ true)
+  granted-by : (x y : Bool) (k : List ℕ) → soundB (s .regs) ≡ x → fittedB s ≡ y → replayedBy x y s k .list .number ≡ 0
+      → (soundB (s .regs) ≡ true) × (fittedB s ≡ true)
   granted-by false y k e f z = let w : _≡_ {A = ℕ} 1 0 = z in absurd (omega arith)
   granted-by true false k e f z = let w : _≡_ {A = ℕ} 2 0 = z in absurd (omega arith)
   granted-by true true k e f z = (e, f)
 
-  granted : replayed s l .list .number ≡ 0 → (soundB (s .regs) ≡ true) × (lengthB (length (s .mem)) ≡ true)
+  granted : replayed s l .list .number ≡ 0 → (soundB (s .regs) ≡ true) × (fittedB s ≡ true)
   unfolding replayed
-  granted z = granted-by (soundB (s .regs)) (lengthB (length (s .mem))) _ refl refl z
+  granted z = granted-by (soundB (s .regs)) (fittedB s) _ refl refl z
 
 pub record-goes-on : RecordGoesOn
 record-goes-on s a b sound typed words long few none =
@@ -90,7 +92,7 @@ record-goes-on s a b sound typed words long few none =
     let kept = all-kept (length (s .mem)) long a s (record { regs = lawful (s .regs) sound typed; words = words; long = refl }) in
     parts-done a b s none
     ∙ ap (behind (allDone s a .list .taken) (allDone s a .list .units))
-    (sym (granted-is t b (lawful-sound (t .regs) (kept .regs)) (ap lengthB (kept .long) ∙ long) few))
+    (sym (granted-is t b (lawful-sound (t .regs) (kept .regs)) (still-right (length (s .mem)) long t kept) few))
 
 pub parts-are-the-whole : PartsAreTheWhole
 parts-are-the-whole s a b typed words short z =

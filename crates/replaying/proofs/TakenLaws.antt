@@ -11,7 +11,7 @@ use lib.Seq.{take-append-le}
 use borrow.Author.Tests.{eqb-true}
 use Rattle.registers.specs.Sound.{soundB}
 use Rattle.registers.specs.State.{State}
-use Rattle.units.specs.Run.{lengthB}
+use Rattle.units.specs.Run.{fittedB}
 use Rattle.laws.proofs.BranchLaws.{either}
 use Rattle.replaying.specs.Replay.{eventDone, Outcome, outcome, leftAt, behind, allDone, mostReplayed, replayed}
 use Rattle.replaying.specs.Record.{TakenIsAllDone}
@@ -64,7 +64,7 @@ module _ (s : State) (l : List ℕ) where
       let same : replayed s (take taken l) ≡ replayed s l = sym (is (take taken l)) ∙ is l in
       (ap leftAt same, ap (λ (x : Outcome). x .list .units) same)
 
-  granted-same : soundB (s .regs) ≡ true → lengthB (length (s .mem)) ≡ true → Same (replayed s (take taken l)) (replayed s l)
+  granted-same : soundB (s .regs) ≡ true → fittedB s ≡ true → Same (replayed s (take taken l)) (replayed s l)
   granted-same sound long =
       let all : replayed s l ≡ allDone s seen = granted-all s l sound long in
       let n = allDone s seen .list .taken in
@@ -78,10 +78,10 @@ module _ (s : State) (l : List ℕ) where
       granted-is s (take taken l) sound long few ∙ ap (allDone s) part ∙ alone seen s in
       (ap leftAt same ∙ sym (ap leftAt all), ap (λ (o : Outcome). o .list .units) same ∙ sym (ap (λ (o : Outcome). o .list .units) all))
 
-  same-by : (x y : Bool) → soundB (s .regs) ≡ x → lengthB (length (s .mem)) ≡ y → Same (replayed s (take taken l)) (replayed s l)
+  same-by : (x y : Bool) → soundB (s .regs) ≡ x → fittedB s ≡ y → Same (replayed s (take taken l)) (replayed s l)
   same-by false y e f = refused-same (λ k. way-unsound s k e)
   same-by true false e f = refused-same (λ k. way-mislong s k e f)
   same-by true true e f = granted-same e f
 
 pub taken-is-all-done : TakenIsAllDone
-taken-is-all-done s l = same-by s l (soundB (s .regs)) (lengthB (length (s .mem))) refl refl
+taken-is-all-done s l = same-by s l (soundB (s .regs)) (fittedB s) refl refl

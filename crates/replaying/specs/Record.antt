@@ -10,7 +10,7 @@ use lib.ListN.{length, take}
 use Rattle.registers.specs.Sound.{soundB}
 use Rattle.registers.specs.State.{State}
 use Rattle.registers.specs.Typed.{Typed, Words}
-use Rattle.units.specs.Run.{lengthB}
+use Rattle.units.specs.Run.{fittedB}
 use Rattle.sending.specs.Send.{sentAll, unitsOf, AllAccepted}
 use Rattle.replaying.specs.Replay.{idleMark, outcome, leftAt, behind, allDone, mostReplayed, replayed}
 
@@ -18,7 +18,7 @@ use Rattle.replaying.specs.Replay.{idleMark, outcome, leftAt, behind, al
 -- refused, the next piece b, lent to what they left, goes on as the whole record does. (`Typed` and `Words` are what the types say.)
 abbrev pub RecordGoesOn : Type 0
 RecordGoesOn =
-    (s : State) (a b : List ℕ) → soundB (s .regs) ≡ true → Typed (s .regs) → Words (s .mem) → lengthB (length (s .mem)) ≡ true
+    (s : State) (a b : List ℕ) → soundB (s .regs) ≡ true → Typed (s .regs) → Words (s .mem) → fittedB s ≡ true
     → length b ≤ mostReplayed → allDone s a .list .number ≡ 0
     → allDone s (a ++ b) ≡ behind (allDone s a .list .taken) (allDone s a .list .units) (replayed (leftAt (allDone s a)) b)
 
@@ -49,6 +49,6 @@ listingEvents (e ∷ l) = lineEvent e ∷ idleMark ∷ listingEvents l
 -- those of the entries sent one at a time.
 abbrev pub ListingIsSent : Type 0
 ListingIsSent =
-    (s : State) (l : List ℕ) → soundB (s .regs) ≡ true → lengthB (length (s .mem)) ≡ true → 2 * length l ≤ mostReplayed → AllAccepted s l
+    (s : State) (l : List ℕ) → soundB (s .regs) ≡ true → fittedB s ≡ true → 2 * length l ≤ mostReplayed → AllAccepted s l
     → replayed s (listingEvents l)
     ≡ outcome (record { number = 0; taken = 2 * length l; units = unitsOf s l; regs = sentAll s l .regs }) (sentAll s l .mem)

@@ -7,7 +7,7 @@ use lib.Dec.{eqb, ltb}
 use lib.ListN.{length, take}
 use Rattle.registers.specs.Sound.{soundB}
 use Rattle.registers.specs.State.{State, state}
-use Rattle.units.specs.Run.{lengthB, runDone}
+use Rattle.units.specs.Run.{fittedB, runDone}
 use Rattle.sending.specs.Send.{written}
 use Rattle.finishing.specs.Finish.{finished}
 use Rattle.finishing.specs.Finish.{Outcome as Runs, outcome as runs, leftAt as leftBy}
@@ -87,4 +87,4 @@ abbrev pub mostReplayed : ℕ
 mostReplayed = 4194304
 
 unfoldable pub replayed : State → List ℕ → Outcome
-replayed s l = replayedBy (soundB (s .regs)) (lengthB (length (s .mem))) s (take mostReplayed l)
+replayed s l = replayedBy (soundB (s .regs)) (fittedB s) s (take mostReplayed l)

@@ -91,7 +91,9 @@ pub fn replay(r: Registers, events: &[u64], mem: &mut [u16]) -> Replayed
             regs: r,
         };
     }
-    if !units::length_right(mem.len()) {
+    let board = r.board;
+    let wiring = board.wiring;
+    if !units::length_right(wiring, mem.len()) {
         return Replayed {
             number: 2,
             taken: 0,

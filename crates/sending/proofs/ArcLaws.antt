@@ -39,7 +39,7 @@ module _ (r : Registers) (m : List ℕ) where
 
   abbrev pub drawnUpTo : ℕ → List ℕ
   drawnUpTo k =
-      cycles (r .op) (λ j. patternAt (r .ram) (r .drawing .dm + j)) (λ j. movedTo (r .drawing .dm + j) .cursor) k m
+      cycles (r .board .wiring) (r .op) (λ j. patternAt (r .ram) (r .drawing .dm + j)) (λ j. movedTo (r .drawing .dm + j) .cursor) k m
 
   -- where the unit of cycle k finds the arc: before the first cycle no move is made
   abbrev standing : ℕ → Moving
@@ -98,7 +98,7 @@ module _ {q : Registers} (v : Waiting q) (arc : q .drawing .kind ≡ 4) where
     done : (m : List ℕ) → unitsDone (suc n) (takenBy 0x16C q m) ≡ arcEnded (figd q) m n
     done m = reaches m (suc n) ∙ whole (figd q) m n all
 
-    pub arc-draws : (m : List ℕ) → lengthB (length m) ≡ true → n + 2 < fullBudget
+    pub arc-draws : (m : List ℕ) → lengthB (q .board .wiring) (length m) ≡ true → n + 2 < fullBudget
         → Leads (state q m) (0x16C ∷ []) (suc n) (arcEnded (figd q) m n)
     unfolding reasonOf
     arc-draws m long few =

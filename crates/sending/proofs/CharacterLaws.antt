@@ -50,7 +50,7 @@ module _ (r : Registers) (m : List ℕ) (some : 0 < columnsOf (r .drawing) (r .v
   rowAt i = walk (λ k. up) (r .pitch) (r .cursor) (i / w)
 
   abbrev inked : ℕ → List ℕ
-  inked i = cycles (r .op) (λ j. characterPattern (r .ram) (factorOf (r .video .zoom)) (j / w) (j % w)) spotAt i m
+  inked i = cycles (r .board .wiring) (r .op) (λ j. characterPattern (r .ram) (factorOf (r .video .zoom)) (j / w) (j % w)) spotAt i m
 
   abbrev here : ℕ → State
   here i = state (putWork (putCursor r (spotAt i)) (Character (i / w) (i % w) (rowAt i))) (inked i)
@@ -125,7 +125,7 @@ module _ {q : Registers} (v : Waiting q) (some : 0 < columnsOf (q .drawing) (q .
   done : (m : List ℕ) → unitsDone (suc n) (takenBy 0x168 q m) ≡ finished (gchrd q) m some n
   done m = reaches m (suc n) ∙ whole (gchrd q) m some n all
 
-  pub gchrd-draws : (m : List ℕ) → lengthB (length m) ≡ true → n + 2 < fullBudget
+  pub gchrd-draws : (m : List ℕ) → lengthB (q .board .wiring) (length m) ≡ true → n + 2 < fullBudget
       → Leads (state q m) (0x168 ∷ []) (suc n) (finished (gchrd q) m some n)
   unfolding reasonOf
   gchrd-draws m long few =

@@ -43,7 +43,7 @@ module _ (r : Registers) (m : List ℕ) where
   cursorOf i = walk (stepAt (r .drawing)) (r .pitch) (r .cursor) i
 
   abbrev pub drawnUpTo : ℕ → List ℕ
-  drawnUpTo i = cycles (r .op) (patternAt (r .ram)) cursorOf i m
+  drawnUpTo i = cycles (r .board .wiring) (r .op) (patternAt (r .ram)) cursorOf i m
 
   abbrev here : ℕ → State
   here i = state (putWork (putCursor r (cursorOf i)) (Figure i (runningAt (r .drawing) i))) (drawnUpTo i)
@@ -95,7 +95,7 @@ module _ {q : Registers} (v : Waiting q) (n : ℕ) (all : suc n ≡ dotsOf (q .d
   done : (m : List ℕ) → unitsDone (suc n) (takenBy 0x16C q m) ≡ ended (figd q) m n
   done m = reaches m (suc n) ∙ whole (figd q) m n all
 
-  pub figd-draws : (m : List ℕ) → lengthB (length m) ≡ true → n + 2 < fullBudget
+  pub figd-draws : (m : List ℕ) → lengthB (q .board .wiring) (length m) ≡ true → n + 2 < fullBudget
       → Leads (state q m) (0x16C ∷ []) (suc n) (ended (figd q) m n)
   unfolding reasonOf
   figd-draws m long few =

@@ -4,6 +4,7 @@ use Prim.Native.Nat.{ℕ, _%_, _≤_, _<_}
 use native.Mathlib.Omega.{arith}
 use lib.Dec.{ltb}
 use borrow.Author.Tests.{ltb-true, lt-ltb, le-ltb}
+use Rattle.registers.specs.declared.Board.{Board}
 use Rattle.registers.specs.declared.Registers.{Registers}
 use Rattle.ports.specs.declared.Answer.{Answer}
 use Rattle.ports.specs.Port.{commandWritten, parameterWritten}
@@ -19,7 +20,7 @@ module _ (r : Registers) (e : ℕ) where
   pub to-command : {a : Answer} → 256 ≤ e → a ≡ commandWritten r (e % 256) → a ≡ written r e
   to-command h q = rw (q, le-ltb e 256 h)
 
-pub written-kept : (r : Registers) → SoundSet r → (e : ℕ) → Answers (written r e)
-written-kept r l e =
-    cases Answers (ltb e 256) (λ t. parameter-written-kept r l e (ltb-true e 256 t))
+pub written-kept : {board : Board} (r : Registers) → SoundSet board r → (e : ℕ) → Answers board (written r e)
+written-kept {board} r l e =
+    cases (Answers board) (ltb e 256) (λ t. parameter-written-kept r l e (ltb-true e 256 t))
     (λ t. command-written-kept r l (e % 256) (omega arith))

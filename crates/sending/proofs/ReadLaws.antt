@@ -15,7 +15,7 @@ use Rattle.laws.proofs.KeptPortLaws.{turned-back}
 use Rattle.sending.specs.Send.{written, fullBudget, Reply, sent}
 use Rattle.sending.proofs.WaitLaws.{Waiting}
 
-module _ (r : Registers) (l : SoundSet r) (read : r .mode ≡ Read) where
+module _ (r : Registers) (l : SoundSet (r .board) r) (read : r .mode ≡ Read) where
   pub turned-waits : Waiting (turnedBack r)
   turned-waits = record { lawful = turned-back r l; mode = refl; idle = refl; empty = refl }
 

@@ -12,6 +12,7 @@ use borrow.Author.Tests.{ltb-false, ne-eqb}
 use Rattle.registers.specs.declared.Mode.{Mode}
 use Rattle.registers.specs.declared.Work.{Work}
 use Rattle.registers.specs.declared.Buffer.{Buffer}
+use Rattle.registers.specs.declared.Board.{Board}
 use Rattle.registers.specs.declared.Registers.{Registers}
 use Rattle.registers.specs.Fresh.{emptyBuffer}
 use Rattle.registers.specs.Buffer.{pushed, oldest, popped}
@@ -24,7 +25,7 @@ use Rattle.ports.specs.Port.{granted, queued, queuedOr3, commandIn, parameterIn
 use Rattle.sending.specs.Send.{written, fullBudget, Reply, sent, left, sentAll, AllAccepted, unitsOf}
 use Rattle.laws.proofs.RunLaws.{further, counted-on, run-granted}
 use Rattle.sending.proofs.RunLaws.{goes-on, runs}
-use Rattle.sending.proofs.WaitLaws.{Waiting, waiting-reason, takenBy, waiting-sound, queued-sound, units-lawful}
+use Rattle.sending.proofs.WaitLaws.{Waiting, waiting-reason, takenBy, waiting-sound, queued-sound, units-lawful, units-board}
 
 -- ---- lists of entries
 -- entries that are all accepted, the state that they lead to, and how many units their runs make beside one for each entry
@@ -115,7 +116,7 @@ module _ (r : Registers) (m : List ℕ) (e : ℕ) (v : Waiting r) (small : e < 5
       (oldest-pushed (r .buffer) e (v .empty) (omega (arith, v .lawful .buffer .long))) (popped-pushed (r .buffer) e (v .empty))
 
   -- one unit takes it, and the rest of the run is that of what it began
-  pub taken-at-once : lengthB (length m) ≡ true
+  pub taken-at-once : lengthB (r .board .wiring) (length m) ≡ true
       → sent (state r m) e ≡ record { port = granted 0 (queued r e); run = further 1 (runFrom 4294967294 0 (takenBy e r m)) }
   unfolding sent
   taken-at-once long =
@@ -129,7 +130,7 @@ module _ (r : Registers) (m : List ℕ) (e : ℕ) (v : Waiting r) (small : e < 5
   abbrev reached : ℕ → State
   reached n = unitsDone n (takenBy e r m)
 
-  module _ (long : lengthB (length m) ≡ true) (n : ℕ) (busy : (i : ℕ) → i < n → reasonOf (reached i .regs) ≡ 0)
+  module _ (long : lengthB (r .board .wiring) (length m) ≡ true) (n : ℕ) (busy : (i : ℕ) → i < n → reasonOf (reached i .regs) ≡ 0)
       (idle : reasonOf (reached n .regs) ≡ 2)
       (few : n + 1 < fullBudget) where
     run-is : runDone fullBudget loaded ≡ stopped (reached n) (suc n) 2
@@ -164,8 +165,9 @@ module _ (r : Registers) (m : List ℕ) (e : ℕ) (v : Waiting r) (small : e < 5
 
 -- ---- entries that start nothing: only the registers change, whatever the memory holds
 pub record Acts (r : Registers) (l : List ℕ) (q : Registers) : Type 0 where
-  pub leads : (m : List ℕ) → lengthB (length m) ≡ true → Leads (state r m) l 0 (state q m)
+  pub leads : (m : List ℕ) → lengthB (r .board .wiring) (length m) ≡ true → Leads (state r m) l 0 (state q m)
   pub waits : Waiting q
+  pub same : q .board ≡ r .board
 
 pub acts-one : {r q : Registers} {e : ℕ} → Waiting r → e < 512 → (e ≡ 256 → ⊥) → ((m : List ℕ) → takenBy e r m ≡ state q m)
     → q .mode ≡ r .mode → q .work ≡ r .work → q .buffer ≡ emptyBuffer → Acts r (e ∷ []) q
@@ -175,6 +177,7 @@ acts-one {r} {q} {e} v small other is mode work buffer = record {
       (leads-one r m e v small other long 0 (λ i h. absurd (omega arith))
       (ap (λ (s : State). reasonOf (s .regs)) (is m) ∙ waiting-reason q waits) (omega arith));
   waits = waits;
+  same = units-board v e 0 (is []);
 }
   where
     waits : Waiting q
@@ -186,4 +189,8 @@ acts-one {r} {q} {e} v small other is mode work buffer = record {
     }
 
 pub acts-then : {r q s : Registers} {a b : List ℕ} → Acts r a q → Acts q b s → Acts r (a ++ b) s
-acts-then u v = record { leads = λ m long. leads-then (u .leads m long) (v .leads m long); waits = v .waits }
+acts-then u v = record {
+  leads = λ m long. leads-then (u .leads m long) (v .leads m (ap (λ (b : Board). lengthB (b .wiring) (length m)) (u .same) ∙ long));
+  waits = v .waits;
+  same = v .same ∙ u .same;
+}

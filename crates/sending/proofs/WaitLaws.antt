@@ -17,14 +17,14 @@ use Rattle.registers.specs.Typed.{Typed}
 use Rattle.processor.specs.Entry.{entryTaken}
 use Rattle.units.specs.Run.{reasonOf, unitsDone}
 use Rattle.ports.specs.Port.{queued}
-use Rattle.laws.proofs.KeptLaws.{SoundSet, lawful, lawful-sound, buffer-kept}
+use Rattle.laws.proofs.KeptLaws.{SoundSet, own, lawful, lawful-sound, buffer-kept}
 use Rattle.laws.proofs.KeptBufferLaws.{empty-queue, pushed-queue}
 use Rattle.laws.proofs.KeptProcessorLaws.{entry-kept}
 use Rattle.laws.proofs.KeptUnitLaws.{units-kept}
 use Rattle.sending.specs.Send.{Ready}
 
 pub record Waiting (r : Registers) : Type 0 where
-  pub lawful : SoundSet r
+  pub lawful : SoundSet (r .board) r
   pub mode : r .mode ≡ Write
   pub idle : r .work ≡ Idle
   pub empty : r .buffer .count ≡ 0
@@ -56,10 +56,10 @@ module _ {r : Registers} (v : Waiting r) (e : ℕ) where
       lawful-sound (queued r e) (buffer-kept r (v .lawful) (pushed (r .buffer) e)
       (pushed-queue (r .mode) (r .buffer) (v .lawful .buffer) e (rw (v .mode) h)))
 
-  -- n units after the entry was taken
-  pub units-lawful : (n : ℕ) {s : State} → unitsDone n (takenBy e r []) ≡ s → SoundSet (s .regs)
-  units-lawful n is =
-      subst (λ (s : State). SoundSet (s .regs)) is
+  -- n units after the entry was taken: sound, and of the same board
+  units-sound : (n : ℕ) {s : State} → unitsDone n (takenBy e r []) ≡ s → SoundSet (r .board) (s .regs)
+  units-sound n is =
+      subst (λ (s : State). SoundSet (r .board) (s .regs)) is
       (units-kept 0 n (takenBy e r [])
       (entry-kept 0 e (state (drained r) [])
       (record {
@@ -68,3 +68,9 @@ module _ {r : Registers} (v : Waiting r) (e : ℕ) where
         long = refl;
       })
       (v .idle) (v .mode)) .regs)
+
+  pub units-lawful : (n : ℕ) {s : State} → unitsDone n (takenBy e r []) ≡ s → SoundSet (s .regs .board) (s .regs)
+  units-lawful n {s} is = own (s .regs) (units-sound n is)
+
+  pub units-board : (n : ℕ) {s : State} → unitsDone n (takenBy e r []) ≡ s → s .regs .board ≡ r .board
+  units-board n is = units-sound n is .same

@@ -12,7 +12,7 @@ use borrow.Author.Tests.{eqb-true, eq-eqb, ne-eqb, leb-true, leb-false}
 use Rattle.registers.specs.Sound.{soundB}
 use Rattle.registers.specs.State.{State, state}
 use Rattle.ports.specs.declared.Answer.{Answer}
-use Rattle.units.specs.Run.{Outcome, lengthB, runDone}
+use Rattle.units.specs.Run.{Outcome, fittedB, runDone}
 use Rattle.laws.proofs.BranchLaws.{cases}
 use Rattle.sending.specs.Send.{written, sent, left, sentAll, unitsOf, AllAccepted}
 use Rattle.sends.specs.Sends.{ListOutcome, listed, takenOf, numberAt, takenFrom, listTaken}
@@ -139,11 +139,11 @@ module _ (s : State) (l : List ℕ) where
   unfolding listSent
   way-unsound e = rw e
 
-  pub way-mislong : soundB (s .regs) ≡ true → lengthB (length (s .mem)) ≡ false → listRefused 2 s ≡ listSent s l
+  pub way-mislong : soundB (s .regs) ≡ true → fittedB s ≡ false → listRefused 2 s ≡ listSent s l
   unfolding listSent
   way-mislong e f = rw (e, f)
 
-  pub way-sent : {o : ListOutcome} {n : ℕ} → soundB (s .regs) ≡ true → lengthB (length (s .mem)) ≡ true → n ≡ min mostListed (length l)
+  pub way-sent : {o : ListOutcome} {n : ℕ} → soundB (s .regs) ≡ true → fittedB s ≡ true → n ≡ min mostListed (length l)
       → o ≡ listTaken s (take n l) → o ≡ listSent s l
   unfolding listSent
   way-sent e f h o = o ∙ rw (e, f) (ap (listTaken s) (ap (λ (k : ℕ). take k l) h ∙ looked-at mostListed l))
@@ -156,7 +156,7 @@ all-accepted s (e ∷ l) a =
     let rest = all-accepted (left (sent s e)) l (a .1) in
     rw (eq-eqb (sent s e .port .number) 0 (a .0 .port)) (ap suc (rest .0), rest .1)
 
-pub accepted-listed : (s : State) (l : List ℕ) → soundB (s .regs) ≡ true → lengthB (length (s .mem)) ≡ true → length l ≤ mostListed
+pub accepted-listed : (s : State) (l : List ℕ) → soundB (s .regs) ≡ true → fittedB s ≡ true → length l ≤ mostListed
     → AllAccepted s l → listSent s l ≡ ended 0 (length l) (unitsOf s l) (sentAll s l)
 unfolding listSent
 accepted-listed s l sound long few a =

@@ -7,7 +7,7 @@ use lib.Dec.{eqb}
 use lib.ListN.{length, take}
 use Rattle.registers.specs.Sound.{soundB}
 use Rattle.registers.specs.State.{State}
-use Rattle.units.specs.Run.{lengthB}
+use Rattle.units.specs.Run.{fittedB}
 use Rattle.sending.specs.Send.{sent, left, sentAll, unitsOf}
 use Rattle.sends.specs.declared.Listed.{Listed}
 
@@ -60,4 +60,4 @@ abbrev pub mostListed : ℕ
 mostListed = 4294967295
 
 unfoldable pub listSent : State → List ℕ → ListOutcome
-listSent s l = listBy (soundB (s .regs)) (lengthB (length (s .mem))) s (take mostListed l)
+listSent s l = listBy (soundB (s .regs)) (fittedB s) s (take mostListed l)

@@ -76,7 +76,7 @@ module _ (t : Transfer) (p : Settings) where
       unfolding dataAll dataSet
       half-sent h f g k l = rw (here entries at more, lt-ltb e 256 byte, h, f, g, k, l, mod-eq-of-lt byte)
 
-      pub completed : (x : ℕ) → halfB t next ≡ false → x ≡ wdatPattern t low (e % 256) → m′ ≡ cycled (p .op) x c m
+      pub completed : (x : ℕ) → halfB t next ≡ false → x ≡ wdatPattern t low (e % 256) → m′ ≡ cycled (p .board .wiring) (p .op) x c m
           → c′ ≡ wordMoveOf (p .drawing .dir) (p .pitch) c → next′ ≡ 0 → low′ ≡ 0
           → now ≡ oneMore (dataAll t (within t p c′ next′ low′) (drop (at + 1) entries) m′)
       unfolding dataAll dataSet

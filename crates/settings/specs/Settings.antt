@@ -66,11 +66,13 @@ putSettings r p =
       buffer = r .buffer;
       progress = p .progress;
       work = r .work;
+      board = p .board;
     }
 
 abbrev pub settingsOf : Registers → Settings
 settingsOf r =
     record {
+      board = r .board;
       cursor = r .cursor;
       pitch = r .pitch;
       drawing = r .drawing;
@@ -127,7 +129,7 @@ unfoldable pub dataSet : Transfer → ℕ → ℕ → Settings → List ℕ → 
 dataSet t i v p m =
     cond (halfB t i) (taken (setProgress p (wdatProgress t 1 v)) m)
     (taken (setProgress (setCursor p (wordMoveOf (p .drawing .dir) (p .pitch) (p .cursor))) (wdatProgress t 0 0))
-    (cycled (p .op) (wdatPattern t (p .progress .low) v) (p .cursor) m))
+    (cycled (p .board .wiring) (p .op) (wdatPattern t (p .progress .low) v) (p .cursor) m))
 
 -- the parameter v of a command, i being where it goes
 abbrev pub parameterSet : Command → ℕ → ℕ → Settings → List ℕ → Taken

@@ -1,6 +1,7 @@
 // Entries in a row that only set registers.
 use dots::Cursor;
 use dots::Operation;
+use registers::Board;
 use registers::Command;
 use registers::Drawing;
 use registers::Progress;
@@ -21,8 +22,9 @@ ghost use Rattle.settings.specs.Settings.{
   settleAll,
 };
 
-// The registers that such entries set.
+// The registers that such entries set, and the board, which they leave.
 pub struct Settings {
+    pub board: Board,
     pub cursor: Cursor,
     pub pitch: u8,
     pub drawing: Drawing,
@@ -90,6 +92,8 @@ fn data_taken(from: Settings, t: Transfer, entries: &[u16], k: usize, mem: &mut 
     requires { ⌜ from .progress .command ≡ Wdat t ⌝ }
     ensures { λ q. ⌜ settled q (now (mem .exit)) ≡ dataAll t from (drop k (now (entries .entry))) (now (mem .entry)) ⌝ }
 {
+    let board = from.board;
+    let wiring = board.wiring;
     let op = from.op;
     let dir = from.drawing.dir;
     let pitch = from.pitch;
@@ -107,7 +111,7 @@ fn data_taken(from: Settings, t: Transfer, entries: &[u16], k: usize, mem: &mut 
             next = 1;
             low = v;
         } else {
-            dots::cycle(mem, c, wdat::pattern_of(t, low, v), op);
+            dots::cycle(mem, wiring, c, wdat::pattern_of(t, low, v), op);
             c = dots::word_move(dir, pitch, c);
             next = 0;
             low = 0;
@@ -118,9 +122,10 @@ fn data_taken(from: Settings, t: Transfer, entries: &[u16], k: usize, mem: &mut 
     p.cursor = c;
     p.progress.next = next;
     p.progress.low = low;
+    let count = at - k;
     Settled {
         settings: p,
-        count: at - k,
+        count: count,
     }
 }
 

@@ -52,7 +52,8 @@ character-busy r e = rw e
 -- the registers r but for the cursor and what is in progress
 module _ (r : Registers) where
   abbrev brush : Brush
-  brush = record { op = r .op; ram = r .ram; drawing = r .drawing; zoom = r .video .zoom; pitch = r .pitch }
+  brush =
+      record { wiring = r .board .wiring; op = r .op; ram = r .ram; drawing = r .drawing; zoom = r .video .zoom; pitch = r .pitch }
 
   abbrev placed : Cursor → Work → List ℕ → State
   placed c w m = state (putWork (putCursor r c) w) m

@@ -1,10 +1,12 @@
 // The run with a budget.
+use dots::Wiring;
 use registers::Buffer;
 use registers::Mode;
 use registers::Registers;
 use registers::Work;
 use walks::Brush;
 ghost use mathlib.Core.Path.{_≡_};
+ghost use Rattle.dots.specs.declared.Wiring.the-variants.{Folded};
 ghost use Rattle.registers.specs.Put.{putBuffer};
 ghost use Rattle.registers.specs.State.{state};
 ghost use Rattle.units.specs.Unit.{fetched, fetchBy};
@@ -89,8 +91,8 @@ pub fn reason(r: Registers) -> u8
 }
 
 // A power of two, 16 to 262,144.
-pub fn length_right(n: usize) -> bool
-    ensures { λ t. ⌜ t ≡ lengthB n ⌝ }
+fn folded_right(n: usize) -> bool
+    ensures { λ t. ⌜ t ≡ lengthB Folded n ⌝ }
 {
     (n == 16)
         | (n == 32)
@@ -109,6 +111,16 @@ pub fn length_right(n: usize) -> bool
         | (n == dots::ADDRESSES as usize)
 }
 
+// Whether a memory of n words may be wired so.
+pub fn length_right(wiring: Wiring, n: usize) -> bool
+    ensures { λ t. ⌜ t ≡ lengthB wiring n ⌝ }
+{
+    match wiring {
+        Wiring::Folded => folded_right(n),
+        Wiring::Open => (16 <= n) & (n <= dots::ADDRESSES as usize),
+    }
+}
+
 // It stops after n units, and why.
 fn stops(r: Registers, n: u32, why: u8) -> Ran
     ensures { λ q. ⌜ q ≡ record { number = 0; count = n; why = why; regs = r } ⌝ }
@@ -123,12 +135,15 @@ fn stops(r: Registers, n: u32, why: u8) -> Ran
 
 // What a figure or a character is drawn with.
 fn brush_of(r: Registers) -> Brush
-    ensures { λ b. ⌜ b ≡ record { op = r .op; ram = r .ram; drawing = r .drawing; zoom = r .video .zoom; pitch = r .pitch } ⌝ }
+    ensures { λ b. ⌜ b ≡ record { wiring = r .board .wiring; op = r .op; ram = r .ram; drawing = r .drawing; zoom = r .video .zoom; pitch = r .pitch } ⌝ }
 {
+    let board = r.board;
+    let wiring = board.wiring;
     let op = r.op;
     let ram = r.ram;
     let f = r.drawing;
     Brush {
+        wiring: wiring,
         op: op,
         ram: ram,
         drawing: f,
@@ -197,7 +212,9 @@ pub fn run(r: Registers, mem: &mut [u16], budget: u32) -> Ran
             regs: r,
         };
     }
-    if !length_right(mem.len()) {
+    let board = r.board;
+    let wiring = board.wiring;
+    if !length_right(wiring, mem.len()) {
         return Ran {
             number: 2,
             count: 0,

@@ -129,14 +129,14 @@ module _ (b : Brush) (narrow : b .pitch < 256) where
     unpacked w = record { cursor = cursorAt (w .at % 4194304); d = w .at / 4294967296 % 65536; mem = w .mem }
 
     line-walks : (n k d a : ℕ) (m : List ℕ) → a < 4194304 → d < 65536
-        → unpacked (lineWalk (b .op) lowOf highOf axisIn diagonalIn n k (pack d a) m) ≡ figureWalk b n k d (cursorAt a) m
+        → unpacked (lineWalk (b .wiring) (b .op) lowOf highOf axisIn diagonalIn n k (pack d a) m) ≡ figureWalk b n k d (cursorAt a) m
     unfolding lineWalk figureWalk patternAt
     line-walks zero k d a m p q = λ i. record { cursor = cursorAt (pack-at d a p i); d = pack-d d a p q i; mem = m }
     line-walks (suc n) k d a m p q =
         let t = leb 8192 d in
-        let l = cycled (b .op) (patternOf lowOf highOf k) (cursorAt a) m in
-        (λ i. unpacked (lineWalk (b .op) lowOf highOf axisIn diagonalIn n (k + 1) (line-place a d p i)
-        (cycled (b .op) (patternOf lowOf highOf k) (cursorAt (pack-at d a p i)) m)))
+        let l = cycled (b .wiring) (b .op) (patternOf lowOf highOf k) (cursorAt a) m in
+        (λ i. unpacked (lineWalk (b .wiring) (b .op) lowOf highOf axisIn diagonalIn n (k + 1) (line-place a d p i)
+        (cycled (b .wiring) (b .op) (patternOf lowOf highOf k) (cursorAt (pack-at d a p i)) m)))
         ∙ line-walks n (k + 1) (nextD t d) (nextAt t a) l (next-lt t a) (next-d-lt t d)
         ∙ (λ i. figureWalk b n (k + 1) (sym (line-runs d) i) (sym (line-moves k d a p) i) l)
 
@@ -145,15 +145,15 @@ module _ (b : Brush) (narrow : b .pitch < 256) where
     side-step : (j k a : ℕ) (m : List ℕ) → a < 4194304 → directionAt (b .drawing) k d ≡ dir
         → figureWalk b (suc j) k d (cursorAt a) m
         ≡ figureWalk b j (k + 1) d (cursorAt ((a + strideOf dir (b .pitch)) % 4194304))
-        (cycled (b .op) (patternOf lowOf highOf k) (cursorAt a) m)
+        (cycled (b .wiring) (b .op) (patternOf lowOf highOf k) (cursorAt a) m)
     unfolding figureWalk runningD patternAt
     side-step j k a m p e =
         rw (e, ne-eqb (b .drawing .kind) lineKind other)
         (λ i. figureWalk b j (k + 1) d (stride-steps (b .pitch) a narrow p dir i)
-        (cycled (b .op) (patternOf lowOf highOf k) (cursorAt a) m))
+        (cycled (b .wiring) (b .op) (patternOf lowOf highOf k) (cursorAt a) m))
 
     side-walks : (n x k a : ℕ) (m : List ℕ) → a < 4194304 → ((i : ℕ) → k ≤ i → i < k + n → directionAt (b .drawing) i d ≡ dir)
-        → let w = straightWalk (b .op) lowOf highOf (strideOf dir (b .pitch)) n k a m in
+        → let w = straightWalk (b .wiring) (b .op) lowOf highOf (strideOf dir (b .pitch)) n k a m in
         figureWalk b (n + x) k d (cursorAt a) m ≡ figureWalk b x (k + n) d (cursorAt (w .at)) (w .mem)
     unfolding straightWalk
     side-walks zero x k a m p t =
@@ -164,8 +164,8 @@ module _ (b : Brush) (narrow : b .pitch < 256) where
         let e : suc n + x ≡ suc (n + x) = omega arith in
         let f : k + 1 + n ≡ k + suc n = omega arith in
         let s = strideOf dir (b .pitch) in
-        let l = cycled (b .op) (patternOf lowOf highOf k) (cursorAt a) m in
-        let w = straightWalk (b .op) lowOf highOf s n (k + 1) ((a + s) % 4194304) l in
+        let l = cycled (b .wiring) (b .op) (patternOf lowOf highOf k) (cursorAt a) m in
+        let w = straightWalk (b .wiring) (b .op) lowOf highOf s n (k + 1) ((a + s) % 4194304) l in
         ap (λ (j : ℕ). figureWalk b j k d (cursorAt a) m) e
         ∙ side-step (n + x) k a m p (t k (omega arith) (omega arith))
         ∙ side-walks n x (k + 1) ((a + s) % 4194304) l (omega arith) (λ i g h. t i (omega arith) (omega arith))
@@ -176,14 +176,14 @@ pub line-done : (b : Brush) (n k d at s : ℕ) (m l : List ℕ) {u v x y axis di
     → b .drawing .kind ≡ lineKind → at < 4194304
     → u ≡ axisOf (b .drawing .dir) → Stride u (b .pitch) x → Packed x (b .drawing .d1) axis
     → v ≡ diagonalOf (b .drawing .dir) → Stride v (b .pitch) y → Packed y (b .drawing .d2) diagonal → Packed at d from
-    → walked s l ≡ lineWalk (b .op) (getD (b .ram) 8 0) (getD (b .ram) 9 0) axis diagonal n k from m
+    → walked s l ≡ lineWalk (b .wiring) (b .op) (getD (b .ram) 8 0) (getD (b .ram) 9 0) axis diagonal n k from m
     → c ≡ cursorAt (s % 4194304) → record { cursor = c; d = s / 4294967296 % 65536; mem = l } ≡ figureWalk b n k d (cursorAt at) m
 line-done b n k d at s m l {u} {v} {x} {y} {axis} {diagonal} {from} line p eu sx ax ev sy dy f w ec =
     let g : axis ≡ axisIn b narrow = ax .is ∙ (λ i. pack (b .drawing .d1) (xs i)) in
     let h : diagonal ≡ diagonalIn b narrow = dy .is ∙ (λ i. pack (b .drawing .d2) (ys i)) in
     (λ i. record { cursor = ec i; d = s / 4294967296 % 65536; mem = l })
     ∙ ap (unpacked b narrow line)
-    (w ∙ (λ i. lineWalk (b .op) (getD (b .ram) 8 0) (getD (b .ram) 9 0) (g i) (h i) n k (f .is i) m))
+    (w ∙ (λ i. lineWalk (b .wiring) (b .op) (getD (b .ram) 8 0) (getD (b .ram) 9 0) (g i) (h i) n k (f .is i) m))
     ∙ line-walks b narrow line n k d at m p (f .narrow)
   where
     narrow : b .pitch < 256
@@ -201,15 +201,15 @@ side-past i e end u h side ee = is-least end u ee .above i h (side .from)
 
 pub side-on : (b : Brush) (d i e end a q : ℕ) (m l : List ℕ) {u dir step : ℕ} → (b .drawing .kind ≡ lineKind → ⊥) → a < 4194304 → i < end
     → Side (b .drawing) i u → e ≡ least end u → dir ≡ directionAt (b .drawing) i d → Stride dir (b .pitch) step
-    → walked q l ≡ straightWalk (b .op) (getD (b .ram) 8 0) (getD (b .ram) 9 0) step (e - i) i a m
+    → walked q l ≡ straightWalk (b .wiring) (b .op) (getD (b .ram) 8 0) (getD (b .ram) 9 0) step (e - i) i a m
     → figureWalk b (end - i) i d (cursorAt a) m ≡ figureWalk b (end - e) e d (cursorAt q) l
 side-on b d i e end a q m l {u} {dir} {step} other p h side ee ed st w =
     let v = is-least end u ee in
     let z = side-past i e end u h side ee in
     let f : end - i ≡ e - i + (end - e) = omega (arith, v .left) in
     let g : i + (e - i) ≡ e = omega arith in
-    let r : walked q l ≡ straightWalk (b .op) (getD (b .ram) 8 0) (getD (b .ram) 9 0) (strideOf dir (b .pitch)) (e - i) i a m =
-    w ∙ ap (λ (j : ℕ). straightWalk (b .op) (getD (b .ram) 8 0) (getD (b .ram) 9 0) j (e - i) i a m) (st .is) in
+    let r : walked q l ≡ straightWalk (b .wiring) (b .op) (getD (b .ram) 8 0) (getD (b .ram) 9 0) (strideOf dir (b .pitch)) (e - i) i a m =
+    w ∙ ap (λ (j : ℕ). straightWalk (b .wiring) (b .op) (getD (b .ram) 8 0) (getD (b .ram) 9 0) j (e - i) i a m) (st .is) in
     ap (λ (j : ℕ). figureWalk b j i d (cursorAt a) m) f
     ∙ side-walks b (st .narrow) other d dir (e - i) (end - e) i a m p
     (λ j x y. side .same j d x (omega (arith, v .right)) ∙ sym ed)

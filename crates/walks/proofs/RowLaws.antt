@@ -55,21 +55,21 @@ module _ (b : Brush) (narrow : b .pitch < 256) (plain : factorOf (b .zoom) ≡ 1
   standing w = stood (cursorAt (w .at)) (w .mem)
 
   row-walks : (n y x a : ℕ) (m : List ℕ) → a < 4194304
-      → standing (straightWalk (b .op) (rowByte (b .ram) y) (rowByte (b .ram) y) along n x a m) ≡ rowWalk b n y x (cursorAt a) m
+      → standing (straightWalk (b .wiring) (b .op) (rowByte (b .ram) y) (rowByte (b .ram) y) along n x a m) ≡ rowWalk b n y x (cursorAt a) m
   unfolding straightWalk rowWalk
   row-walks zero y x a m p = refl
   row-walks (suc n) y x a m p =
-      let l = cycled (b .op) (patternOf (rowByte (b .ram) y) (rowByte (b .ram) y) x) (cursorAt a) m in
+      let l = cycled (b .wiring) (b .op) (patternOf (rowByte (b .ram) y) (rowByte (b .ram) y) x) (cursorAt a) m in
       row-walks n y (x + 1) ((a + along) % 4194304) l (omega arith)
       ∙ (λ i. rowWalk b n y (x + 1) (sym (stride-steps (b .pitch) a narrow p (b .drawing .dir)) i)
-      (cycled (b .op) (sym (row-pattern y x) i) (cursorAt a) m))
+      (cycled (b .wiring) (b .op) (sym (row-pattern y x) i) (cursorAt a) m))
 
 -- ---- over what the calls of the code ensure
 pub row-done : (b : Brush) (n y x a q : ℕ) (m l : List ℕ) {v step : ℕ} → factorOf (b .zoom) ≡ 1 → a < 4194304 → v ≡ rowByte (b .ram) y
-    → Stride (b .drawing .dir) (b .pitch) step → walked q l ≡ straightWalk (b .op) v v step n x a m
+    → Stride (b .drawing .dir) (b .pitch) step → walked q l ≡ straightWalk (b .wiring) (b .op) v v step n x a m
     → stood (cursorAt q) l ≡ rowWalk b n y x (cursorAt a) m
 row-done b n y x a q m l plain p ev st w =
-    ap (standing b (st .narrow) plain) (w ∙ (λ i. straightWalk (b .op) (ev i) (ev i) (st .is i) n x a m))
+    ap (standing b (st .narrow) plain) (w ∙ (λ i. straightWalk (b .wiring) (b .op) (ev i) (ev i) (st .is i) n x a m))
     ∙ row-walks b (st .narrow) plain n y x a m p
 
 -- the next row's start

@@ -6,6 +6,7 @@ use mathlib.Core.Bool.{cond}
 use mathlib.Core.List.{List}
 use lib.ListN.{getD}
 use lib.Dec.{leb}
+use Rattle.dots.specs.declared.Wiring.{Wiring}
 use Rattle.dots.specs.declared.Operation.{Operation}
 use Rattle.dots.specs.declared.Cursor.{Cursor}
 use Rattle.dots.specs.Cycle.{cycled}
@@ -59,16 +60,16 @@ abbrev pub walked : ℕ → List ℕ → Walked
 walked s m = record { at = s; mem = m }
 
 -- n dots of a line from dot k on, each with the step after it
-unfoldable pub lineWalk : Operation → ℕ → ℕ → ℕ → ℕ → ℕ → ℕ → ℕ → List ℕ → Walked
-lineWalk op low high axis diagonal zero k s m = walked s m
-lineWalk op low high axis diagonal (suc n) k s m =
-    lineWalk op low high axis diagonal n (k + 1) (lineStepped axis diagonal s) (cycled op (patternOf low high k) (cursorAt (s % 4194304)) m)
+unfoldable pub lineWalk : Wiring → Operation → ℕ → ℕ → ℕ → ℕ → ℕ → ℕ → ℕ → List ℕ → Walked
+lineWalk w op low high axis diagonal zero k s m = walked s m
+lineWalk w op low high axis diagonal (suc n) k s m =
+    lineWalk w op low high axis diagonal n (k + 1) (lineStepped axis diagonal s) (cycled w op (patternOf low high k) (cursorAt (s % 4194304)) m)
 
 -- n dots along one direction from dot k on, each with the step after it
-unfoldable pub straightWalk : Operation → ℕ → ℕ → ℕ → ℕ → ℕ → ℕ → List ℕ → Walked
-straightWalk op low high step zero k a m = walked a m
-straightWalk op low high step (suc n) k a m =
-    straightWalk op low high step n (k + 1) ((a + step) % 4194304) (cycled op (patternOf low high k) (cursorAt a) m)
+unfoldable pub straightWalk : Wiring → Operation → ℕ → ℕ → ℕ → ℕ → ℕ → ℕ → List ℕ → Walked
+straightWalk w op low high step zero k a m = walked a m
+straightWalk w op low high step (suc n) k a m =
+    straightWalk w op low high step n (k + 1) ((a + step) % 4194304) (cycled w op (patternOf low high k) (cursorAt a) m)
 
 -- from dot k to before dot e the steps go one way
 pub record Side (f : Drawing) (k e : ℕ) : Type 0 where

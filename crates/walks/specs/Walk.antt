@@ -19,7 +19,7 @@ least a b = cond (ltb a b) a b
 
 -- "dot k uses bit k mod 16 of the pattern", by one cycle
 abbrev pub dotted : Brush → ℕ → Cursor → List ℕ → List ℕ
-dotted b k c m = cycled (b .op) (patternAt (b .ram) k) c m
+dotted b k c m = cycled (b .wiring) (b .op) (patternAt (b .ram) k) c m
 
 -- n dots of a figure from dot k on: where they lead, and the running D
 pub record Led : Type 0 where
@@ -43,7 +43,7 @@ abbrev pub columnsIn : Brush → ℕ
 columnsIn b = columnsOf (b .drawing) (b .zoom)
 
 abbrev pub lettered : Brush → ℕ → ℕ → Cursor → List ℕ → List ℕ
-lettered b row column c m = cycled (b .op) (characterPattern (b .ram) (factorOf (b .zoom)) row column) c m
+lettered b row column c m = cycled (b .wiring) (b .op) (characterPattern (b .ram) (factorOf (b .zoom)) row column) c m
 
 abbrev pub nextRow : Brush → Cursor → Cursor
 nextRow b start = stepOf ((b .drawing .dir + 2) % 8) (b .pitch) start

@@ -1,6 +1,7 @@
 // Dots of a figure or a character one after another, each with the step after it, up to a dot that the caller names.
 use dots::Cursor;
 use dots::Operation;
+use dots::Wiring;
 use registers::Drawing;
 ghost use mathlib.Core.Path.{_≡_};
 ghost use Prim.Native.Nat.{_-_};
@@ -13,6 +14,7 @@ pub mod steps;
 
 // The registers that a figure or a character is drawn with; its dots leave them as they are.
 pub struct Brush {
+    pub wiring: Wiring,
     pub op: Operation,
     pub ram: [u8; 16],
     pub drawing: Drawing,

@@ -4,6 +4,7 @@ use crate::Reached;
 use crate::bits::stride;
 use dots::Cursor;
 use dots::Operation;
+use dots::Wiring;
 ghost use mathlib.Core.Path.{_≡_};
 ghost use Prim.Native.Nat.{_+_, _-_, _<_};
 ghost use Rattle.dots.specs.Operation.{operationOf};
@@ -41,6 +42,7 @@ fn line_step(axis: u64, diagonal: u64, s: u64) -> u64
 // table of masks is laid out once, before the first dot.
 fn line_loop(
     mem: &mut [u16],
+    wiring: Wiring,
     kind: u8,
     low: u8,
     high: u8,
@@ -51,7 +53,7 @@ fn line_loop(
     end: u32,
 ) -> u64
     requires { ⌜ (from < 281474976710656) × ((axis < 281474976710656) × (diagonal < 281474976710656)) ⌝ }
-    ensures { λ q. ⌜ walked q (now (mem .exit)) ≡ lineWalk (operationOf kind) low high axis diagonal (end - k) k from (now (mem .entry)) ⌝ }
+    ensures { λ q. ⌜ walked q (now (mem .exit)) ≡ lineWalk wiring (operationOf kind) low high axis diagonal (end - k) k from (now (mem .entry)) ⌝ }
 {
     let masks = dots::MASKS;
     let mut s = from;
@@ -65,7 +67,7 @@ fn line_loop(
             ead: a / 16,
             mask: mask,
         };
-        dots::cycle(mem, c, pattern, dots::operation_of(kind));
+        dots::cycle(mem, wiring, c, pattern, dots::operation_of(kind));
         s = line_step(axis, diagonal, s);
         i += 1;
     }
@@ -75,6 +77,7 @@ fn line_loop(
 // The same by the operation, which is looked at once, as is whether the pattern is all ones.
 fn line_by(
     mem: &mut [u16],
+    wiring: Wiring,
     op: Operation,
     low: u8,
     high: u8,
@@ -85,24 +88,25 @@ fn line_by(
     end: u32,
 ) -> u64
     requires { ⌜ (from < 281474976710656) × ((axis < 281474976710656) × (diagonal < 281474976710656)) ⌝ }
-    ensures { λ q. ⌜ walked q (now (mem .exit)) ≡ lineWalk op low high axis diagonal (end - k) k from (now (mem .entry)) ⌝ }
+    ensures { λ q. ⌜ walked q (now (mem .exit)) ≡ lineWalk wiring op low high axis diagonal (end - k) k from (now (mem .entry)) ⌝ }
 {
     if low == 255 {
         if high == 255 {
-            return line_solid(mem, op, axis, diagonal, k, from, end);
+            return line_solid(mem, wiring, op, axis, diagonal, k, from, end);
         }
     }
     match op {
-        Operation::Replace => line_loop(mem, 0, low, high, axis, diagonal, k, from, end),
-        Operation::Complement => line_loop(mem, 1, low, high, axis, diagonal, k, from, end),
-        Operation::Reset => line_loop(mem, 2, low, high, axis, diagonal, k, from, end),
-        Operation::Set => line_loop(mem, 3, low, high, axis, diagonal, k, from, end),
+        Operation::Replace => line_loop(mem, wiring, 0, low, high, axis, diagonal, k, from, end),
+        Operation::Complement => line_loop(mem, wiring, 1, low, high, axis, diagonal, k, from, end),
+        Operation::Reset => line_loop(mem, wiring, 2, low, high, axis, diagonal, k, from, end),
+        Operation::Set => line_loop(mem, wiring, 3, low, high, axis, diagonal, k, from, end),
     }
 }
 
 // .. where the pattern is all ones.
 fn line_solid(
     mem: &mut [u16],
+    wiring: Wiring,
     op: Operation,
     axis: u64,
     diagonal: u64,
@@ -111,13 +115,13 @@ fn line_solid(
     end: u32,
 ) -> u64
     requires { ⌜ (from < 281474976710656) × ((axis < 281474976710656) × (diagonal < 281474976710656)) ⌝ }
-    ensures { λ q. ⌜ walked q (now (mem .exit)) ≡ lineWalk op 255 255 axis diagonal (end - k) k from (now (mem .entry)) ⌝ }
+    ensures { λ q. ⌜ walked q (now (mem .exit)) ≡ lineWalk wiring op 255 255 axis diagonal (end - k) k from (now (mem .entry)) ⌝ }
 {
     match op {
-        Operation::Replace => line_loop(mem, 0, 255, 255, axis, diagonal, k, from, end),
-        Operation::Complement => line_loop(mem, 1, 255, 255, axis, diagonal, k, from, end),
-        Operation::Reset => line_loop(mem, 2, 255, 255, axis, diagonal, k, from, end),
-        Operation::Set => line_loop(mem, 3, 255, 255, axis, diagonal, k, from, end),
+        Operation::Replace => line_loop(mem, wiring, 0, 255, 255, axis, diagonal, k, from, end),
+        Operation::Complement => line_loop(mem, wiring, 1, 255, 255, axis, diagonal, k, from, end),
+        Operation::Reset => line_loop(mem, wiring, 2, 255, 255, axis, diagonal, k, from, end),
+        Operation::Set => line_loop(mem, wiring, 3, 255, 255, axis, diagonal, k, from, end),
     }
 }
 
@@ -133,9 +137,11 @@ pub(crate) fn line_dots(mem: &mut [u16], b: Brush, at: u32, d: u16, k: u32, end:
         b.drawing.d2,
     );
     let ram = b.ram;
+    let wiring = b.wiring;
     let op = b.op;
     let s = line_by(
         mem,
+        wiring,
         op,
         ram[8],
         ram[9],

@@ -4,6 +4,7 @@ use crate::Reached;
 use crate::bits::stride;
 use dots::Cursor;
 use dots::Operation;
+use dots::Wiring;
 use registers::Drawing;
 ghost use mathlib.Core.Path.{_≡_};
 ghost use Prim.Native.Nat.{_+_, _-_, _<_};
@@ -16,6 +17,7 @@ ghost use Rattle.walks.specs.Address.{walked, straightWalk, Side, rowByt
 // Dots k to end along one direction, each with the step after it; number and table as for a line.
 fn straight_loop(
     mem: &mut [u16],
+    wiring: Wiring,
     kind: u8,
     low: u8,
     high: u8,
@@ -25,7 +27,7 @@ fn straight_loop(
     end: u32,
 ) -> u32
     requires { ⌜ (at < 4194304) × (step < 8388608) ⌝ }
-    ensures { λ q. ⌜ walked q (now (mem .exit)) ≡ straightWalk (operationOf kind) low high step (end - k) k at (now (mem .entry)) ⌝ }
+    ensures { λ q. ⌜ walked q (now (mem .exit)) ≡ straightWalk wiring (operationOf kind) low high step (end - k) k at (now (mem .entry)) ⌝ }
 {
     let masks = dots::MASKS;
     let mut a = at;
@@ -38,7 +40,7 @@ fn straight_loop(
             ead: a / 16,
             mask: mask,
         };
-        dots::cycle(mem, c, pattern, dots::operation_of(kind));
+        dots::cycle(mem, wiring, c, pattern, dots::operation_of(kind));
         a = (a + step) % 4194304;
         i += 1;
     }
@@ -48,6 +50,7 @@ fn straight_loop(
 // The same by the operation, which is looked at once.
 fn straight_by(
     mem: &mut [u16],
+    wiring: Wiring,
     op: Operation,
     low: u8,
     high: u8,
@@ -57,31 +60,32 @@ fn straight_by(
     end: u32,
 ) -> u32
     requires { ⌜ (at < 4194304) × (step < 8388608) ⌝ }
-    ensures { λ q. ⌜ walked q (now (mem .exit)) ≡ straightWalk op low high step (end - k) k at (now (mem .entry)) ⌝ }
+    ensures { λ q. ⌜ walked q (now (mem .exit)) ≡ straightWalk wiring op low high step (end - k) k at (now (mem .entry)) ⌝ }
 {
     match op {
-        Operation::Replace => straight_loop(mem, 0, low, high, step, k, at, end),
-        Operation::Complement => straight_loop(mem, 1, low, high, step, k, at, end),
-        Operation::Reset => straight_loop(mem, 2, low, high, step, k, at, end),
-        Operation::Set => straight_loop(mem, 3, low, high, step, k, at, end),
+        Operation::Replace => straight_loop(mem, wiring, 0, low, high, step, k, at, end),
+        Operation::Complement => straight_loop(mem, wiring, 1, low, high, step, k, at, end),
+        Operation::Reset => straight_loop(mem, wiring, 2, low, high, step, k, at, end),
+        Operation::Set => straight_loop(mem, wiring, 3, low, high, step, k, at, end),
     }
 }
 
 // .. where the pattern is all ones.
-fn straight_solid(mem: &mut [u16], op: Operation, step: u32, k: u32, at: u32, end: u32) -> u32
+fn straight_solid(mem: &mut [u16], wiring: Wiring, op: Operation, step: u32, k: u32, at: u32, end: u32) -> u32
     requires { ⌜ (at < 4194304) × (step < 8388608) ⌝ }
-    ensures { λ q. ⌜ walked q (now (mem .exit)) ≡ straightWalk op 255 255 step (end - k) k at (now (mem .entry)) ⌝ }
+    ensures { λ q. ⌜ walked q (now (mem .exit)) ≡ straightWalk wiring op 255 255 step (end - k) k at (now (mem .entry)) ⌝ }
 {
     match op {
-        Operation::Replace => straight_loop(mem, 0, 255, 255, step, k, at, end),
-        Operation::Complement => straight_loop(mem, 1, 255, 255, step, k, at, end),
-        Operation::Reset => straight_loop(mem, 2, 255, 255, step, k, at, end),
-        Operation::Set => straight_loop(mem, 3, 255, 255, step, k, at, end),
+        Operation::Replace => straight_loop(mem, wiring, 0, 255, 255, step, k, at, end),
+        Operation::Complement => straight_loop(mem, wiring, 1, 255, 255, step, k, at, end),
+        Operation::Reset => straight_loop(mem, wiring, 2, 255, 255, step, k, at, end),
+        Operation::Set => straight_loop(mem, wiring, 3, 255, 255, step, k, at, end),
     }
 }
 
 fn straight_any(
     mem: &mut [u16],
+    wiring: Wiring,
     op: Operation,
     low: u8,
     high: u8,
@@ -91,14 +95,14 @@ fn straight_any(
     end: u32,
 ) -> u32
     requires { ⌜ (at < 4194304) × (step < 8388608) ⌝ }
-    ensures { λ q. ⌜ walked q (now (mem .exit)) ≡ straightWalk op low high step (end - k) k at (now (mem .entry)) ⌝ }
+    ensures { λ q. ⌜ walked q (now (mem .exit)) ≡ straightWalk wiring op low high step (end - k) k at (now (mem .entry)) ⌝ }
 {
     if low == 255 {
         if high == 255 {
-            return straight_solid(mem, op, step, k, at, end);
+            return straight_solid(mem, wiring, op, step, k, at, end);
         }
     }
-    straight_by(mem, op, low, high, step, k, at, end)
+    straight_by(mem, wiring, op, low, high, step, k, at, end)
 }
 
 // Where the side ends that dot k is on.
@@ -130,13 +134,14 @@ pub(crate) fn side_dots(mem: &mut [u16], b: Brush, at: u32, d: u16, k: u32, end:
     ensures { λ q. ⌜ led q (now (mem .exit)) ≡ figureWalk b (end - k) k d (cursorAt at) (now (mem .entry)) ⌝ }
 {
     let ram = b.ram;
+    let wiring = b.wiring;
     let op = b.op;
     let mut a = at;
     let mut i = k;
     while i < end {
         let e = crate::least_of(end, side_end(b.drawing, i));
         let step = stride(figures::figure::direction_at(b.drawing, i, d), b.pitch);
-        a = straight_any(mem, op, ram[8], ram[9], step, i, a, e);
+        a = straight_any(mem, wiring, op, ram[8], ram[9], step, i, a, e);
         i = e;
     }
     let c = dots::cursor_at(a);
@@ -158,10 +163,12 @@ pub(crate) fn row_bits(mem: &mut [u16], b: Brush, y: u32, x: u32, at: u32, end: 
     ensures { λ q. ⌜ stood (cursorAt q) (now (mem .exit)) ≡ rowWalk b (end - x) y x (cursorAt at) (now (mem .entry)) ⌝ }
 {
     let ram = b.ram;
+    let wiring = b.wiring;
     let op = b.op;
     let byte = row_byte(ram, y);
     straight_by(
         mem,
+        wiring,
         op,
         byte,
         byte,

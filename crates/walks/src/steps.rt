@@ -11,9 +11,10 @@ pub fn dot(mem: &mut [u16], b: Brush, c: Cursor, k: u32)
     ensures { λ r. ⌜ now (mem .exit) ≡ dotted b k c (now (mem .entry)) ⌝ }
 {
     let ram = b.ram;
+    let wiring = b.wiring;
     let op = b.op;
     let pattern = figures::figure::pattern_of(ram[8], ram[9], k);
-    dots::cycle(mem, c, pattern, op);
+    dots::cycle(mem, wiring, c, pattern, op);
 }
 
 // One cycle of a character.
@@ -21,9 +22,10 @@ pub fn letter(mem: &mut [u16], b: Brush, c: Cursor, row: u32, column: u32)
     ensures { λ r. ⌜ now (mem .exit) ≡ lettered b row column c (now (mem .entry)) ⌝ }
 {
     let ram = b.ram;
+    let wiring = b.wiring;
     let op = b.op;
     let pattern = figures::character::zoomed_pattern(ram, b.zoom, row, column);
-    dots::cycle(mem, c, pattern, op);
+    dots::cycle(mem, wiring, c, pattern, op);
 }
 
 // Dots of a figure from dot k on, before dot end, each with the step after it.

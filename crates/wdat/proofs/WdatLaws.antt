@@ -16,6 +16,6 @@ module _ (t : Transfer) (i v : ℕ) (r : Registers) (m : List ℕ) where
   wdat-half h e = rw (h, e)
 
   pub wdat-whole : {q : Registers} {p : ℕ} {n : List ℕ} → halfB t i ≡ false → p ≡ wdatPattern t (r .progress .low) v
-      → n ≡ cycled (r .op) p (r .cursor) m → q ≡ setDone t r → state q n ≡ wdatTaken t i v r m
+      → n ≡ cycled (r .board .wiring) (r .op) p (r .cursor) m → q ≡ setDone t r → state q n ≡ wdatTaken t i v r m
   unfolding wdatTaken
   wdat-whole h p n e = rw (h, e, n, p)

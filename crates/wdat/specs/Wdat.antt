@@ -36,4 +36,4 @@ setDone t r =
 unfoldable pub wdatTaken : Transfer → ℕ → ℕ → Registers → List ℕ → State
 wdatTaken t i v r m =
     cond (halfB t i) (state (putProgress r (wdatProgress t 1 v)) m)
-    (state (setDone t r) (cycled (r .op) (wdatPattern t (r .progress .low) v) (r .cursor) m))
+    (state (setDone t r) (cycled (r .board .wiring) (r .op) (wdatPattern t (r .progress .low) v) (r .cursor) m))

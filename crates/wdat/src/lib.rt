@@ -61,7 +61,9 @@ pub fn wdat_taken(r: Registers, t: Transfer, i: u8, v: u8, mem: &mut [u16]) -> R
     if half(t, i) {
         return place(r, t, 1, v);
     }
+    let board = r.board;
+    let wiring = board.wiring;
     let op = r.op;
-    dots::cycle(mem, r.cursor, pattern_of(t, r.progress.low, v), op);
+    dots::cycle(mem, wiring, r.cursor, pattern_of(t, r.progress.low, v), op);
     set_done(r, t)
 }

@@ -24,7 +24,7 @@ refuse-requires-2 c κs = search needs
 
 returns-2 : tie.Need-returns-2
 returns-2 c =
-    way-mislong _ _ _ _ _ _ _ (sym (c .before .before .before .before .sound .ensures) ∙ not-false _ (c .before .before .before .if1 .left))
+    way-mislong _ _ _ _ _ _ _ (sym (c .before .before .before .before .before .sound .ensures) ∙ not-false _ (c .before .before .before .before .if1 .left))
     (sym (c .before .before .length-right .ensures) ∙ not-true _ (c .before .if2 .taken)) (c .refuse2 .ensures)
 
 larger-requires : tie.Need-larger-requires
@@ -35,8 +35,8 @@ refuse-requires-3 c κs = search needs
 
 returns-3 : tie.Need-returns-3
 returns-3 c =
-    way-larger _ _ _ _ _ _ _ (sym (c .before .before .before .before .before .before .sound .ensures)
-    ∙ not-false _ (c .before .before .before .before .before .if1 .left))
+    way-larger _ _ _ _ _ _ _ (sym (c .before .before .before .before .before .before .before .sound .ensures)
+    ∙ not-false _ (c .before .before .before .before .before .before .if1 .left))
     (sym (c .before .before .before .before .length-right .ensures) ∙ not-false _ (c .before .before .before .if2 .left))
     (sym (c .before .before .larger .ensures) ∙ c .before .if3 .taken) (c .refuse3 .ensures)
 
@@ -52,8 +52,8 @@ same-length c = search needs
 returns-4 : tie.Need-returns-4
 returns-4 c =
     let d = c .before .before .before .before .before in
-    way-refused _ _ _ _ _ _ _ (sym (d .before .before .before .before .before .before .before .sound .ensures)
-    ∙ not-false _ (d .before .before .before .before .before .before .if1 .left))
+    way-refused _ _ _ _ _ _ _ (sym (d .before .before .before .before .before .before .before .before .sound .ensures)
+    ∙ not-false _ (d .before .before .before .before .before .before .before .if1 .left))
     (sym (d .before .before .before .before .before .length-right .ensures) ∙ not-false _ (d .before .before .before .before .if2 .left))
     (sym (d .before .before .before .larger .ensures) ∙ d .before .before .if3 .left) (d .translate .ensures)
     (c .before .if4 .taken) (c .refuse4 .ensures)
@@ -86,8 +86,8 @@ same-length-3 c = search needs
 returns-5 : tie.Need-returns-5
 returns-5 c =
     let d = c .before .before .before .before .before .before .before .before .before .before .before .before .before .before .before in
-    way-sent _ _ _ _ _ _ _ (sym (d .before .before .before .before .before .before .before .sound .ensures)
-    ∙ not-false _ (d .before .before .before .before .before .before .if1 .left))
+    way-sent _ _ _ _ _ _ _ (sym (d .before .before .before .before .before .before .before .before .sound .ensures)
+    ∙ not-false _ (d .before .before .before .before .before .before .before .if1 .left))
     (sym (d .before .before .before .before .before .length-right .ensures) ∙ not-false _ (d .before .before .before .before .if2 .left))
     (sym (d .before .before .before .larger .ensures) ∙ d .before .before .if3 .left) (d .translate .ensures)
     (c .before .before .before .before .before .before .before .before .before .before .before .if4 .left)

@@ -17,7 +17,7 @@ length-right-requires c κs = search needs
 
 returns-2 : tie.Need-returns-2
 returns-2 c =
-    way-mislong _ _ (sym (c .before .before .before .sound .ensures) ∙ not-false _ (c .before .before .if1 .left))
+    way-mislong _ _ (sym (c .before .before .before .before .sound .ensures) ∙ not-false _ (c .before .before .before .if1 .left))
     (sym (c .before .length-right .ensures) ∙ not-true _ (c .if2 .taken))
 
 looked-at-requires : tie.Need-looked-at-requires
@@ -28,8 +28,8 @@ slice-aggregate-send-on c = looked-long _ (c .before .looked-at .ensures)
 
 send-on-requires : tie.Need-send-on-requires
 send-on-requires c κs = (
-  sym (c .before .before .before .before .before .before .sound .ensures)
-      ∙ not-false _ (c .before .before .before .before .before .if1 .left),
+  sym (c .before .before .before .before .before .before .before .sound .ensures)
+      ∙ not-false _ (c .before .before .before .before .before .before .if1 .left),
   (
     sym (c .before .before .before .before .length-right .ensures) ∙ not-false _ (c .before .before .before .if2 .left),
     looked-few _ (c .before .before .looked-at .ensures),
@@ -41,8 +41,8 @@ same-length c = search needs
 
 returns-3 : tie.Need-returns-3
 returns-3 c =
-    way-sent _ _ (sym (c .before .before .before .before .before .before .before .before .before .sound .ensures)
-    ∙ not-false _ (c .before .before .before .before .before .before .before .before .if1 .left))
+    way-sent _ _ (sym (c .before .before .before .before .before .before .before .before .before .before .sound .ensures)
+    ∙ not-false _ (c .before .before .before .before .before .before .before .before .before .if1 .left))
     (sym (c .before .before .before .before .before .before .before .length-right .ensures)
     ∙ not-false _ (c .before .before .before .before .before .before .if2 .left))
     (c .before .before .before .before .before .looked-at .ensures) (c .before .before .send-on .ensures)

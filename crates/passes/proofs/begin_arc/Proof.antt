@@ -12,19 +12,19 @@ arc-cycles-of-requires c κs = search needs
 
 returns : tie.Need-returns
 returns c =
-    arc-begins _ (c .before .before .before .before .before .before .before .before .arc-cycles-of .ensures)
-    (c .before .before .before .before .before .before .before .before .before .copy .ensures)
-    (c .before .before .before .before .before .before .before .if1 .taken)
+    arc-begins _ (c .before .before .before .before .before .before .before .before .before .arc-cycles-of .ensures)
+    (c .before .before .before .before .before .before .before .before .before .before .copy .ensures)
+    (c .before .before .before .before .before .before .before .before .if1 .taken)
 
 pass-requires : tie.Need-pass-requires
 pass-requires c κs = search needs
 
 returns-2 : tie.Need-returns-2
 returns-2 c =
-    arc-passes _ (c .before .before .before .before .before .before .before .before .before .before .arc-cycles-of .ensures)
-    (c .before .before .before .before .before .before .before .before .before .before .before .copy .ensures)
-    (c .before .before .before .before .before .before .before .before .before .if1 .left)
-    (c .before .before .before .before .before .before .before .pass .ensures)
+    arc-passes _ (c .before .before .before .before .before .before .before .before .before .before .before .arc-cycles-of .ensures)
+    (c .before .before .before .before .before .before .before .before .before .before .before .before .copy .ensures)
+    (c .before .before .before .before .before .before .before .before .before .before .if1 .left)
+    (c .before .before .before .before .before .before .before .before .pass .ensures)
 
 pub begin-arc-spec : {M : Type 1} → statement M
 begin-arc-spec =

@@ -7,7 +7,7 @@ no-entries-requires : tie.Need-no-entries-requires
 no-entries-requires c κs = search needs
 
 returns : tie.Need-returns
-returns c = rw (c .before .before .before .before .before .before .no-entries .ensures)
+returns c = rw (c .before .before .before .before .before .before .before .no-entries .ensures)
 
 pub turn-back-spec : {M : Type 1} → statement M
 turn-back-spec = tie.close (tie.spec no-entries-requires returns)

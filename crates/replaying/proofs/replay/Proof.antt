@@ -17,7 +17,7 @@ length-right-requires c κs = search needs
 
 returns-2 : tie.Need-returns-2
 returns-2 c =
-    way-mislong _ _ (sym (c .before .before .before .sound .ensures) ∙ not-false _ (c .before .before .if1 .left))
+    way-mislong _ _ (sym (c .before .before .before .before .sound .ensures) ∙ not-false _ (c .before .before .before .if1 .left))
     (sym (c .before .length-right .ensures) ∙ not-true _ (c .if2 .taken))
 
 looked-at-requires : tie.Need-looked-at-requires
@@ -34,8 +34,8 @@ same-length c = search needs
 
 returns-3 : tie.Need-returns-3
 returns-3 c =
-    way-done _ _ (sym (c .before .before .before .before .before .before .before .before .before .sound .ensures)
-    ∙ not-false _ (c .before .before .before .before .before .before .before .before .if1 .left))
+    way-done _ _ (sym (c .before .before .before .before .before .before .before .before .before .before .sound .ensures)
+    ∙ not-false _ (c .before .before .before .before .before .before .before .before .before .if1 .left))
     (sym (c .before .before .before .before .before .before .before .length-right .ensures)
     ∙ not-false _ (c .before .before .before .before .before .before .if2 .left))
     (c .before .before .before .before .before .looked-at .ensures) (c .before .before .replay-on .ensures)

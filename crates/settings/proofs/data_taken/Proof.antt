@@ -22,20 +22,20 @@ record Going (from : Settings) (t : Transfer) (entries : List ℕ) (k : ℕ) (me
   rest : dataAll t from (drop k entries) mem₀ ≡ beyond (at - k) (dataAll t (within t from c next low) (drop at entries) mem)
 
 abbrev Inv-loop : tie.InvT-loop
-Inv-loop from t entries k mem₀ op dir pitch c₀ next₀ low₀ at₀ mem c next low at = Going from t entries k mem₀ mem c next low at
+Inv-loop from t entries k mem₀ wiring op dir pitch c₀ next₀ low₀ at₀ mem c next low at = Going from t entries k mem₀ mem c next low at
 
 abbrev μ-loop : tie.MeasureT-loop
-μ-loop from t entries k mem₀ op dir pitch c₀ next₀ low₀ at₀ mem c next low at = length entries - at
+μ-loop from t entries k mem₀ wiring op dir pitch c₀ next₀ low₀ at₀ mem c next low at = length entries - at
 
 loop-holds : tie.Need-loop-holds Inv-loop μ-loop
 loop-holds c =
-    let a = c .before .before .before .args in
+    let a = c .before .before .before .before .args in
     record {
       past = omega arith;
       long = refl;
       rest = none-before (a .k) _
           ∙ ap (λ (p : Settings). beyond (a .k - a .k) (dataAll (a .t) p (drop (a .k) (a .entries .now)) (a .mem .now)))
-          (in-progress _ (a .from) (c .before .before .before .pre) _ _ _);
+          (in-progress _ (a .from) (c .before .before .before .before .pre) _ _ _);
     }
 
 mul-e : tie.Need-mul-e Inv-loop μ-loop
@@ -68,7 +68,7 @@ loop-less c = search needs
 loop-again : tie.Need-loop-again Inv-loop μ-loop
 loop-again c =
     let l = c .before .before .before .before .before .loop in
-    let a = c .before .before .before .before .before .before .before .before .before .args in
+    let a = c .before .before .before .before .before .before .before .before .before .before .args in
     let more = c .before .before .before .before .loop-test .taken in
     let byte = c .before .before .if1 .left in
     record {
@@ -85,8 +85,8 @@ loop-again c =
           ∙ one-before _ _ _ (l .inv .past);
     }
 
-sub-t25 : tie.Need-sub-t25 Inv-loop μ-loop
-sub-t25 c = omega (arith, c .before .before .before .loop .inv .past)
+sub-count : tie.Need-sub-count Inv-loop μ-loop
+sub-count c = omega (arith, c .before .before .before .loop .inv .past)
 
 same-length : tie.Need-same-length Inv-loop μ-loop
 same-length c = c .before .before .before .loop .inv .long
@@ -94,9 +94,9 @@ same-length c = c .before .before .before .loop .inv .long
 returns : tie.Need-returns Inv-loop μ-loop
 returns c =
     let l = c .before .before .before .loop in
-    let a = c .before .before .before .before .before .before .before .args in
+    let a = c .before .before .before .before .before .before .before .before .args in
     ap (λ (p : Settings). settled (record { settings = p; count = l .at - a .k }) (l .mem))
-    (in-progress _ (a .from) (c .before .before .before .before .before .before .before .pre) _ _ _)
+    (in-progress _ (a .from) (c .before .before .before .before .before .before .before .before .pre) _ _ _)
     ∙ all-before _ (within (a .t) (a .from) (l .c) (l .next) (l .low)) _
     (⊎-elim (λ w. data-ended _ (a .from) _ _ _ _ _ _ (w .left)) (λ w. data-broken _ (a .from) _ _ _ _ _ _ (w .0 .taken) (w .2 .taken))
     (c .before .before .loop-test .came))
@@ -119,6 +119,6 @@ data-taken-spec =
     add-at
     loop-less
     loop-again
-    sub-t25
+    sub-count
     same-length
     returns)

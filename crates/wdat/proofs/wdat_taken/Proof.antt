@@ -28,8 +28,8 @@ same-length c = search needs
 
 returns-2 : tie.Need-returns-2
 returns-2 c =
-    wdat-whole _ _ _ _ _ (sym (c .before .before .before .before .before .before .before .half .ensures)
-    ∙ c .before .before .before .before .before .before .if1 .left) (c .before .before .before .before .pattern-of .ensures)
+    wdat-whole _ _ _ _ _ (sym (c .before .before .before .before .before .before .before .before .half .ensures)
+    ∙ c .before .before .before .before .before .before .before .if1 .left) (c .before .before .before .before .pattern-of .ensures)
     (c .before .before .before .cycle .ensures) (c .set-done .ensures)
 
 pub wdat-taken-spec : {M : Type 1} → statement M

@@ -7,7 +7,7 @@ first-of-requires : tie.Need-first-of-requires
 first-of-requires c κs = search needs
 
 returns : tie.Need-returns
-returns c = rw (c .before .before .before .before .before .before .first-of .ensures)
+returns c = rw (c .before .before .before .before .before .before .before .first-of .ensures)
 
 pub begin-spec : {M : Type 1} → statement M
 begin-spec = tie.close (tie.spec first-of-requires returns)

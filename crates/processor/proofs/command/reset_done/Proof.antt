@@ -9,7 +9,7 @@ no-entries-requires c κs = search needs
 
 returns : tie.Need-returns
 unfolding resetDone
-returns c = rw (c .before .before .before .before .no-entries .ensures)
+returns c = rw (c .before .before .before .before .before .no-entries .ensures)
 
 pub reset-done-spec : {M : Type 1} → statement M
 reset-done-spec = tie.close (tie.spec no-entries-requires returns)

@@ -4,6 +4,7 @@ use mathlib.Core.List.{List}
 use Prim.Native.Nat.{ℕ, _-_, _%_}
 use native.Mathlib.Omega.{arith}
 use lib.ListN.{length}
+use Rattle.dots.specs.declared.Wiring.{Wiring}
 use Rattle.dots.specs.Operation.{operationOf}
 use Rattle.walks.proofs.LoopLaws.{cycle-at}
 use Rattle.passes.specs.declared.Place.{Place}
@@ -13,15 +14,16 @@ use borrow.Author.Needs.{needs}
 use Rattle.sweeps.proofs.bits.arc_loop.Statement.{statement}
 use Rattle.sweeps.proofs.bits.arc_loop.Tie as tie
 
-record Going (mem₀ : List ℕ) (kind low high axis i end : ℕ) (p₀ : Place) (mem : List ℕ) (p : Place) (k : ℕ) : Type 0 where
+record Going (mem₀ : List ℕ) (wiring : Wiring) (kind low high axis i end : ℕ) (p₀ : Place) (mem : List ℕ) (p : Place) (k : ℕ) : Type 0 where
   long : length mem ≡ length mem₀
-  same : placeWalk (operationOf kind) low high axis (end - i) i p₀ mem₀ ≡ placeWalk (operationOf kind) low high axis (end - k) k p mem
+  same : placeWalk wiring (operationOf kind) low high axis (end - i) i p₀ mem₀
+      ≡ placeWalk wiring (operationOf kind) low high axis (end - k) k p mem
 
 abbrev Inv-loop : tie.InvT-loop
-Inv-loop mem₀ kind low high axis i end masks p₀ k₀ mem p k = Going mem₀ kind low high axis i end p₀ mem p k
+Inv-loop mem₀ wiring kind low high axis i end masks p₀ k₀ mem p k = Going mem₀ wiring kind low high axis i end p₀ mem p k
 
 abbrev μ-loop : tie.MeasureT-loop
-μ-loop mem₀ kind low high axis i end masks p₀ k₀ mem p k = end - k
+μ-loop mem₀ wiring kind low high axis i end masks p₀ k₀ mem p k = end - k
 
 loop-holds : tie.Need-loop-holds Inv-loop μ-loop
 loop-holds c = record { long = refl; same = refl }
@@ -63,15 +65,16 @@ loop-again c = let l = c .before .before .before .before .before .before .before
     let o = c .before .before .before .before .operation-of in
     record {
       long = x .kept .0 ∙ l .inv .long;
-      same = l .inv .same ∙ place-goes _ _ _ _ _ _ _ _ (c .before .before .before .before .before .before .before .before .loop-test .taken)
-          (p .ensures) (cycle-at _ (l .p .at % 4194304) (p .result) (l .mem) _ (o .ensures) (x .ensures)) (c .place-on .ensures);
+      same = l .inv .same ∙ place-goes _ _ _ _ _ _ _ _ _ (c .before .before .before .before .before .before .before .before .loop-test .taken)
+          (p .ensures) (cycle-at (c .before .before .before .before .before .before .before .before .before .before .before .args .wiring) _
+          (l .p .at % 4194304) (p .result) (l .mem) _ (o .ensures) (x .ensures)) (c .place-on .ensures);
     }
 
 same-length : tie.Need-same-length Inv-loop μ-loop
 same-length c = c .before .loop .inv .long
 
 returns : tie.Need-returns Inv-loop μ-loop
-returns c = place-ends _ _ _ _ _ _ _ _ (c .loop-test .left) ∙ sym (c .before .loop .inv .same)
+returns c = place-ends _ _ _ _ _ _ _ _ _ (c .loop-test .left) ∙ sym (c .before .loop .inv .same)
 
 pub arc-loop-spec : {M : Type 1} → statement M
 arc-loop-spec =

@@ -43,8 +43,8 @@ cast-cursor-at c = search needs
 cursor-at-requires : tie.Need-cursor-at-requires
 cursor-at-requires c κs = search needs
 
-cast-t25 : tie.Need-cast-t25
-cast-t25 c = search needs
+cast-t26 : tie.Need-cast-t26
+cast-t26 c = search needs
 
 same-length : tie.Need-same-length
 same-length c = search needs
@@ -78,6 +78,6 @@ line-dots-spec =
     line-by-requires
     cast-cursor-at
     cursor-at-requires
-    cast-t25
+    cast-t26
     same-length
     returns)

@@ -4,6 +4,7 @@ use mathlib.Core.List.{List}
 use Prim.Native.Nat.{ℕ, _-_, _%_, _<_}
 use native.Mathlib.Omega.{arith}
 use lib.ListN.{length}
+use Rattle.dots.specs.declared.Wiring.{Wiring}
 use Rattle.dots.specs.Operation.{operationOf}
 use Rattle.walks.specs.Address.{lineWalk}
 use Rattle.walks.proofs.LoopLaws.{cycle-at, stepped-lt, line-on, line-end}
@@ -11,17 +12,17 @@ use borrow.Author.Needs.{needs}
 use Rattle.walks.proofs.line.line_loop.Statement.{statement}
 use Rattle.walks.proofs.line.line_loop.Tie as tie
 
-record Going (mem₀ : List ℕ) (kind low high axis diagonal k end s₀ : ℕ) (mem : List ℕ) (s i : ℕ) : Type 0 where
+record Going (mem₀ : List ℕ) (wiring : Wiring) (kind low high axis diagonal k end s₀ : ℕ) (mem : List ℕ) (s i : ℕ) : Type 0 where
   small : s < 281474976710656
   long : length mem ≡ length mem₀
-  same : lineWalk (operationOf kind) low high axis diagonal (end - k) k s₀ mem₀
-      ≡ lineWalk (operationOf kind) low high axis diagonal (end - i) i s mem
+  same : lineWalk wiring (operationOf kind) low high axis diagonal (end - k) k s₀ mem₀
+      ≡ lineWalk wiring (operationOf kind) low high axis diagonal (end - i) i s mem
 
 abbrev Inv-loop : tie.InvT-loop
-Inv-loop mem₀ kind low high axis diagonal k from end masks s₀ i₀ mem s i = Going mem₀ kind low high axis diagonal k end s₀ mem s i
+Inv-loop mem₀ wiring kind low high axis diagonal k from end masks s₀ i₀ mem s i = Going mem₀ wiring kind low high axis diagonal k end s₀ mem s i
 
 abbrev μ-loop : tie.MeasureT-loop
-μ-loop mem₀ kind low high axis diagonal k from end masks s₀ i₀ mem s i = end - i
+μ-loop mem₀ wiring kind low high axis diagonal k from end masks s₀ i₀ mem s i = end - i
 
 loop-holds : tie.Need-loop-holds Inv-loop μ-loop
 loop-holds c = record { small = search needs; long = refl; same = refl }
@@ -64,15 +65,15 @@ loop-again c = let l = c .before .before .before .before .before .before .before
     record {
       small = rw (c .line-step .ensures) (stepped-lt _ _ _);
       long = x .kept .0 ∙ l .inv .long;
-      same = l .inv .same ∙ line-on _ _ _ _ _ _ _ _ _ (c .before .before .before .before .before .before .before .loop-test .taken)
-          (p .ensures) (cycle-at _ (l .s % 4194304) (p .result) (l .mem) _ (o .ensures) (x .ensures)) (c .line-step .ensures);
+      same = l .inv .same ∙ line-on _ _ _ _ _ _ _ _ _ _ (c .before .before .before .before .before .before .before .loop-test .taken)
+          (p .ensures) (cycle-at (c .before .before .before .before .before .before .before .before .before .before .args .wiring) _ (l .s % 4194304) (p .result) (l .mem) _ (o .ensures) (x .ensures)) (c .line-step .ensures);
     }
 
 same-length : tie.Need-same-length Inv-loop μ-loop
 same-length c = c .before .loop .inv .long
 
 returns : tie.Need-returns Inv-loop μ-loop
-returns c = line-end _ _ _ _ _ _ _ _ _ (c .loop-test .left) ∙ sym (c .before .loop .inv .same)
+returns c = line-end _ _ _ _ _ _ _ _ _ _ (c .loop-test .left) ∙ sym (c .before .loop .inv .same)
 
 pub line-loop-spec : {M : Type 1} → statement M
 line-loop-spec =

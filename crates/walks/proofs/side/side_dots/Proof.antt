@@ -19,10 +19,10 @@ record Going (mem₀ : List ℕ) (b : Brush) (at d k end : ℕ) (mem : List ℕ)
   same : figureWalk b (end - k) k d (cursorAt at) mem₀ ≡ figureWalk b (end - i) i d (cursorAt a) mem
 
 abbrev Inv-loop : tie.InvT-loop
-Inv-loop mem₀ b at d k end ram op a₀ i₀ mem a i = Going mem₀ b at d k end mem a i
+Inv-loop mem₀ b at d k end ram wiring op a₀ i₀ mem a i = Going mem₀ b at d k end mem a i
 
 abbrev μ-loop : tie.MeasureT-loop
-μ-loop mem₀ b at d k end ram op a₀ i₀ mem a i = end - i
+μ-loop mem₀ b at d k end ram wiring op a₀ i₀ mem a i = end - i
 
 loop-holds : tie.Need-loop-holds Inv-loop μ-loop
 loop-holds c = record { small = search needs; long = refl; same = refl }
@@ -61,7 +61,7 @@ loop-less c =
 loop-again : tie.Need-loop-again Inv-loop μ-loop
 loop-again c = let l = c .before .before .before .before .before .before .before .before .before .loop in
     record {
-      small = straight-lt _ _ _ _ 0 _ _ _ _ _ _ (l .inv .small) (c .before .before .straight-any .ensures);
+      small = straight-lt _ _ _ _ _ 0 _ _ _ _ _ _ (l .inv .small) (c .before .before .straight-any .ensures);
       long = c .before .before .straight-any .kept .0 ∙ l .inv .long;
       same = l .inv .same ∙ side-on _ _ _ _ _ _ _ _ _
           (c .before .before .before .before .before .before .before .before .before .before .before .before .pre .0) (l .inv .small)

@@ -4,6 +4,7 @@ use mathlib.Core.List.{List}
 use Prim.Native.Nat.{ℕ, _-_, _<_}
 use native.Mathlib.Omega.{arith}
 use lib.ListN.{length}
+use Rattle.dots.specs.declared.Wiring.{Wiring}
 use Rattle.dots.specs.Operation.{operationOf}
 use Rattle.walks.specs.Address.{straightWalk}
 use Rattle.walks.proofs.LoopLaws.{cycle-at, straight-on, straight-end}
@@ -11,17 +12,17 @@ use borrow.Author.Needs.{needs}
 use Rattle.walks.proofs.side.straight_loop.Statement.{statement}
 use Rattle.walks.proofs.side.straight_loop.Tie as tie
 
-record Going (mem₀ : List ℕ) (kind low high step k end a₀ : ℕ) (mem : List ℕ) (a i : ℕ) : Type 0 where
+record Going (mem₀ : List ℕ) (wiring : Wiring) (kind low high step k end a₀ : ℕ) (mem : List ℕ) (a i : ℕ) : Type 0 where
   small : a < 4194304
   long : length mem ≡ length mem₀
-  same : straightWalk (operationOf kind) low high step (end - k) k a₀ mem₀
-      ≡ straightWalk (operationOf kind) low high step (end - i) i a mem
+  same : straightWalk wiring (operationOf kind) low high step (end - k) k a₀ mem₀
+      ≡ straightWalk wiring (operationOf kind) low high step (end - i) i a mem
 
 abbrev Inv-loop : tie.InvT-loop
-Inv-loop mem₀ kind low high step k at end masks a₀ i₀ mem a i = Going mem₀ kind low high step k end a₀ mem a i
+Inv-loop mem₀ wiring kind low high step k at end masks a₀ i₀ mem a i = Going mem₀ wiring kind low high step k end a₀ mem a i
 
 abbrev μ-loop : tie.MeasureT-loop
-μ-loop mem₀ kind low high step k at end masks a₀ i₀ mem a i = end - i
+μ-loop mem₀ wiring kind low high step k at end masks a₀ i₀ mem a i = end - i
 
 loop-holds : tie.Need-loop-holds Inv-loop μ-loop
 loop-holds c = record { small = search needs; long = refl; same = refl }
@@ -61,15 +62,15 @@ loop-again c = let l = c .before .before .before .before .before .before .before
     record {
       small = omega arith;
       long = x .kept .0 ∙ l .inv .long;
-      same = l .inv .same ∙ straight-on _ _ _ _ _ _ _ _ (c .before .before .before .before .before .before .loop-test .taken)
-          (p .ensures) (cycle-at _ (l .a) (p .result) (l .mem) _ (o .ensures) (x .ensures));
+      same = l .inv .same ∙ straight-on _ _ _ _ _ _ _ _ _ (c .before .before .before .before .before .before .loop-test .taken)
+          (p .ensures) (cycle-at (c .before .before .before .before .before .before .before .before .before .args .wiring) _ (l .a) (p .result) (l .mem) _ (o .ensures) (x .ensures));
     }
 
 same-length : tie.Need-same-length Inv-loop μ-loop
 same-length c = c .before .loop .inv .long
 
 returns : tie.Need-returns Inv-loop μ-loop
-returns c = straight-end _ _ _ _ _ _ _ _ (c .loop-test .left) ∙ sym (c .before .loop .inv .same)
+returns c = straight-end _ _ _ _ _ _ _ _ _ (c .loop-test .left) ∙ sym (c .before .loop .inv .same)
 
 pub straight-loop-spec : {M : Type 1} → statement M
 straight-loop-spec =
