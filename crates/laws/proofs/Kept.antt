@@ -30,8 +30,8 @@ every-entry-keeps-sound =
     record {
       command = λ b h. keeps (λ r l. command-written-kept r l b h);
       parameter = λ b h. keeps (λ r l. parameter-written-kept r l b h);
-      read = keeps byte-read-kept;
-      status = keeps status-read-kept;
+      read = keeps (λ r l. byte-read-kept r l);
+      status = keeps (λ r l. status-read-kept r l);
       pen = λ a. keeps (λ r l. pen-posted-kept r l a);
       run = λ budget m w. keeps (λ r l. run-leaves budget r m l w .regs);
       words = λ budget r m t e w. let left = run-leaves budget r m (lawful r e t) w in (left .words, left .long);

@@ -50,5 +50,6 @@ unfolding arcUnit
 arc-kept n k a s w e =
     let r = s .regs in
     let c = met r (w .regs) k a e .cursor in
-    cycle-kept n (r .op) (patternAt (r .ram) (r .drawing .dm + k)) (putCursor r c) (arcMoved k (met r (w .regs) k a e) r) (s .mem)
+    cycle-kept n (r .board .wiring) (r .op) (patternAt (r .ram) (r .drawing .dm + k)) (putCursor r c)
+    (arcMoved k (met r (w .regs) k a e) r) (s .mem)
     (record { regs = there r (w .regs) k a e; words = w .words; long = w .long }) (arc-moves r (w .regs) k a e)

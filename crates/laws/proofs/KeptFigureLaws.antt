@@ -131,7 +131,7 @@ module _ {board : Board} (r : Registers) (l : SoundSet board r) (i : ℕ) (t : T
 pub read-kept : {board : Board} (n i : ℕ) (t : Transfer) (s : State) → Whole board n s → s .regs .work ≡ Reading i t
     → Whole board n (readUnit i t s)
 unfolding readUnit
-read-kept n i t s w e =
+read-kept {board} n i t s w e =
     either (Whole board n) (roomB t (s .regs .buffer))
     (record {
       regs = item-kept (s .regs) (w .regs) i t e (metBy (s .regs .board .wiring) (s .regs .cursor .ead) (s .mem))

@@ -130,7 +130,7 @@ met-below w ead m h = go (decLt (wordMet w ead (length m)) (length m))
   where
     go : Dec (wordMet w ead (length m) < length m) → metBy w ead m < 65536
     go (yes k) = rw (read-inside m (wordMet w ead (length m)) 65535 0 k) (h .below (wordMet w ead (length m)))
-    go (no k) = rw (List·getD-eq-default m 65535 {wordMet w ead (length m)} (omega arith)) (omega arith)
+    go (no k) = rw (List·getD-eq-default m 65535 {n = wordMet w ead (length m)} (omega arith)) (omega arith)
 
 -- a cycle leaves 16-bit words, as many as there were
 pub cycle-kept : {board : Board} (n : ℕ) (w : Wiring) (op : Operation) (pattern : ℕ) (r q : Registers) (m : List ℕ)

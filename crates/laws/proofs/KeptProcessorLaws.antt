@@ -47,7 +47,7 @@ use Rattle.laws.proofs.KeptMoveLaws.{arc-begins}
 
 pub reset-kept : {board : Board} (r : Registers) → SoundSet board r → SoundSet board (resetDone r)
 unfolding resetDone
-reset-kept r l =
+reset-kept {board} r l =
     let ended = putWork (putBuffer (putMode r Write) emptyBuffer) Idle in
     let still : SoundSet board ended =
     turn-kept r l Write emptyBuffer Idle (empty-queue Write) (idle (r .drawing) (r .video .zoom) Write refl) in
@@ -256,6 +256,6 @@ parameter-kept n v s w e byte =
 pub entry-kept : {board : Board} (n a : ℕ) (s : State) → Whole board n s → s .regs .work ≡ Idle → s .regs .mode ≡ Write
     → Whole board n (entryTaken a s)
 unfolding entryTaken
-entry-kept n a s w e write =
+entry-kept {board} n a s w e write =
     cases (Whole board n) (ltb a 256) (λ t. parameter-kept n a s w e (ltb-true a 256 t))
     (λ t. left n (s .regs) (s .mem) w (command-kept (a % 256) (s .regs) (w .regs) e write))

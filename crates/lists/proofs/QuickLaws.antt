@@ -94,7 +94,7 @@ module _ (r : Registers) (e : ℕ) (now : atOnceB (r .mode) (r .work) (r .buffer
   }
 
 -- ---- one entry, through its port or at once
-module _ {board : Board} (n : ℕ) (right : lengthB (board .wiring) n ≡ true) where
+module _ (board : Board) (n : ℕ) (right : lengthB (board .wiring) n ≡ true) where
   one-part : (s : State) → Whole board n s → (e : ℕ) (l : List ℕ) → sent s e .port .number ≡ 0 → Part board n s (e ∷ l) (listTaken s (e ∷ []))
   unfolding sent
   one-part s w e l z =
@@ -331,7 +331,7 @@ module _ {board : Board} {n : ℕ} {entries : List ℕ} {s₀ s : State} {u k : 
     sets-on some h =
         rw h
         (part-on (subst (λ (x : Settlement). Part board n s (e ∷ later) (setBy (s .regs) x)) (sym all-is)
-        (set-some n (g .right) s (g .whole) e later (rw (← all-is) some))))
+        (set-some board n (g .right) s (g .whole) e later (rw (← all-is) some))))
 
     module _ {o : ListOutcome} (none : q .count ≤ 0) (one : o ≡ firstSent e (state (s .regs) m)) where
       first-is : o ≡ firstSent e s
@@ -339,13 +339,13 @@ module _ {board : Board} {n : ℕ} {entries : List ℕ} {s₀ s : State} {u k : 
           let z : q .count ≡ 0 = omega arith in
           let same : m ≡ s .mem =
           ap (λ (x : Settlement). x .mem) all-is
-          ∙ set-none n (g .right) s (g .whole) e later (ap (λ (x : Settlement). x .count) (sym all-is) ∙ z) in
+          ∙ set-none board n (g .right) s (g .whole) e later (ap (λ (x : Settlement). x .count) (sym all-is) ∙ z) in
           one ∙ ap (λ (x : List ℕ). firstSent e (state (s .regs) x)) same
 
       taken-part : o .list .number ≡ 0 → Part board n s (e ∷ later) o
       taken-part z =
           subst (Part board n s (e ∷ later)) (sym first-is)
-          (first-taken n (g .right) s (g .whole) e later (ap (λ (x : ListOutcome). x .list .number) (sym first-is) ∙ z))
+          (first-taken board n (g .right) s (g .whole) e later (ap (λ (x : ListOutcome). x .list .number) (sym first-is) ∙ z))
 
       pub sends-some : o .list .number ≡ 0 → 0 < o .list .taken
       sends-some z = taken-part z .some
@@ -357,6 +357,6 @@ module _ {board : Board} {n : ℕ} {entries : List ℕ} {s₀ s : State} {u k : 
       pub sends-no-more : (o .list .number ≡ 0 → ⊥) → ended (o .list .number) k u (state (s .regs) (o .mem)) ≡ listTaken s₀ entries
       sends-no-more z =
           ap (λ (x : ListOutcome). ended (x .list .number) k u (state (s .regs) (x .mem))) first-is
-          ∙ first-refused n (g .right) s (g .whole) e later k u (λ y. z (ap (λ (x : ListOutcome). x .list .number) first-is ∙ y))
+          ∙ first-refused board n (g .right) s (g .whole) e later k u (λ y. z (ap (λ (x : ListOutcome). x .list .number) first-is ∙ y))
           ∙ ap (wentOn k u s) (sym rest-is)
           ∙ sym (g .rest)

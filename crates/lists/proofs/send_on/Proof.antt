@@ -14,7 +14,7 @@ use Rattle.lists.proofs.send_on.Statement.{statement}
 use Rattle.lists.proofs.send_on.Tie as tie
 
 abbrev Inv-loop : tie.InvT-loop
-Inv-loop entries mem₀ s₀ units₀ k₀ mem s units k = Going (length mem₀) entries (state s₀ mem₀) (state s mem) units k
+Inv-loop entries mem₀ s₀ units₀ k₀ mem s units k = Going (s₀ .board) (length mem₀) entries (state s₀ mem₀) (state s mem) units k
 
 abbrev μ-loop : tie.MeasureT-loop
 μ-loop entries mem₀ s₀ units₀ k₀ mem s units k = length entries - k
