@@ -5,9 +5,11 @@ use mathlib.Core.List.{List, _++_}
 use Prim.Native.Nat.{ℕ, _≤_, _<_}
 use lib.ListN.{take, drop}
 use borrow.Author.Tests.{le-leb, lt-leb}
+use Rattle.dots.specs.declared.Wiring.{Wiring}
 use Rattle.registers.specs.declared.Registers.{Registers}
 use Rattle.registers.specs.Fresh.{freshSet}
 use Rattle.registers.specs.State.{state}
+use Rattle.wirings.specs.Wired.{wiredAs}
 use Rattle.buffers.specs.Used.{usedOf}
 use Rattle.buffers.specs.Words.{cleared, stored}
 use Rattle.units.specs.declared.Ran.{Ran}
@@ -17,7 +19,7 @@ use Rattle.orders.specs.declared.Memory.the-variants.{Word, Run}
 use Rattle.console.specs.declared.desk.Reply.{Reply}
 use Rattle.console.specs.declared.desk.Reply.the-variants.{Unknown, One}
 use Rattle.controls.specs.declared.memory.Worked.{Worked}
-use Rattle.controls.specs.Memory.{Put, outcome, put, clearedFirst, freshDone, wordDone, runWithin, runTold, memoryDone}
+use Rattle.controls.specs.Memory.{Put, outcome, put, clearedFirst, freshLetter, freshDone, wordDone, runWithin, runTold, memoryDone}
 
 pub clears : (mem : List ℕ) (n : ℕ) {k : ℕ} {o : List ℕ} → k ≡ usedOf n mem → o ≡ cleared (take k mem)
     → o ++ drop k mem ≡ clearedFirst n mem
@@ -34,15 +36,16 @@ module _ (words : ℕ) (mem : List ℕ) where
   word-put a v h e = rw (e, lt-leb words a h)
 
 module _ (r : Registers) (words : ℕ) (mem : List ℕ) where
-  pub length-wrong : (n : ℕ) → lengthB n ≡ false
-      → outcome (record { regs = r; words = words; reply = One 77 2 }) mem ≡ freshDone r words n mem
+  pub length-wrong : (w : Wiring) (n : ℕ) {l : ℕ} → l ≡ freshLetter w → lengthB w n ≡ false
+      → outcome (record { regs = r; words = words; reply = One l 2 }) mem ≡ freshDone w r words n mem
   unfolding freshDone
-  length-wrong n h = rw h
+  length-wrong w n k h = rw (k, h)
 
-  pub made-fresh : (n : ℕ) {q : Registers} {o : List ℕ} → lengthB n ≡ true → o ≡ clearedFirst n mem → q ≡ freshSet
-      → outcome (record { regs = q; words = n; reply = One 77 0 }) o ≡ freshDone r words n mem
+  pub made-fresh : (w : Wiring) (n : ℕ) {l : ℕ} {f q : Registers} {o : List ℕ} → l ≡ freshLetter w → lengthB w n ≡ true
+      → o ≡ clearedFirst n mem → f ≡ freshSet → q ≡ wiredAs w f
+      → outcome (record { regs = q; words = n; reply = One l 0 }) o ≡ freshDone w r words n mem
   unfolding freshDone
-  made-fresh n h e f = rw (e, f, h)
+  made-fresh w n k h e f g = rw (k, e, g, f, h)
 
   pub ran-within : (n : ℕ) {k : ℕ} {q : Ran} {o : List ℕ} → k ≡ usedOf words mem
       → ranOutcome q o ≡ runDone n (state r (take k mem)) → ranOutcome q (o ++ drop k mem) ≡ runWithin r mem words n

@@ -5,9 +5,12 @@ use mathlib.Core.Bool.{cond}
 use mathlib.Core.List.{List, _++_}
 use lib.Dec.{leb}
 use lib.ListN.{take, drop}
+use Rattle.dots.specs.declared.Wiring.{Wiring}
+use Rattle.dots.specs.declared.Wiring.the-variants.{Folded, Open}
 use Rattle.registers.specs.declared.Registers.{Registers}
 use Rattle.registers.specs.Fresh.{freshSet}
 use Rattle.registers.specs.State.{state}
+use Rattle.wirings.specs.Wired.{wiredAs}
 use Rattle.buffers.specs.Used.{usedOf}
 use Rattle.buffers.specs.Words.{cleared, stored}
 use Rattle.units.specs.declared.Ran.{Ran}
@@ -39,12 +42,17 @@ put q m = record { reply = q; mem = m }
 unfoldable pub clearedFirst : ℕ → List ℕ → List ℕ
 clearedFirst n mem = cleared (take (usedOf n mem) mem) ++ drop (usedOf n mem) mem
 
--- `M n`: "fresh registers (01's "Fresh") and a memory of n words, all zero": "`M 0`; `M 2` where n is no lawful length, and all stays
--- as it was"
-unfoldable pub freshDone : Registers → ℕ → ℕ → List ℕ → Outcome
-freshDone r words n mem =
-    cond (lengthB n) (outcome (record { regs = freshSet; words = n; reply = One 77 0 }) (clearedFirst n mem))
-    (outcome (record { regs = r; words = words; reply = One 77 2 }) mem)
+-- "`M n` gives folded wiring", `O n` "open"
+abbrev pub freshLetter : Wiring → ℕ
+freshLetter Folded = 77
+freshLetter Open = 79
+
+-- `M n`, `O n`: "fresh registers (01's "Fresh")", "but for the wiring", "and a memory of n words, all zero": "`O 0`; `O 2` where n is no
+-- lawful length" of that wiring, "and all stays as it was"
+unfoldable pub freshDone : Wiring → Registers → ℕ → ℕ → List ℕ → Outcome
+freshDone w r words n mem =
+    cond (lengthB w n) (outcome (record { regs = wiredAs w freshSet; words = n; reply = One (freshLetter w) 0 }) (clearedFirst n mem))
+    (outcome (record { regs = r; words = words; reply = One (freshLetter w) 2 }) mem)
 
 -- `W a v`: "the word a of the memory becomes v (a below the length ..)"; "out of the range given here .. is answered `?` and changes
 -- nothing"
@@ -62,7 +70,7 @@ runTold a words = record { regs = a .regs; words = words; reply = Three 85 (a .n
 
 -- each line to the memory
 unfoldable pub memoryDone : Registers → ℕ → Memory → List ℕ → Outcome
-memoryDone r words (Fresh n) mem = freshDone r words n mem
+memoryDone r words (Fresh w n) mem = freshDone w r words n mem
 memoryDone r words (Run n) mem = outcome (runTold (runWithin r mem words n .ran) words) (runWithin r mem words n .mem)
 memoryDone r words (Word a v) mem =
     outcome (record { regs = r; words = words; reply = wordDone words a v mem .reply }) (wordDone words a v mem .mem)

@@ -1,5 +1,6 @@
 // The lines to the memory, and the run over it.
 use console::desk::Reply;
+use dots::Wiring;
 use orders::Memory;
 use registers::Registers;
 use units::Ran;
@@ -9,6 +10,7 @@ ghost use Rattle.controls.specs.Memory.{
   outcome,
   put,
   clearedFirst,
+  freshLetter,
   freshDone,
   wordDone,
   runWithin,
@@ -30,23 +32,34 @@ fn clear_first(mem: &mut [u16], words: usize)
     buffers::clear(&mut mem[..n]);
 }
 
-// `M n`: fresh registers and a memory of n zero words.
-fn fresh(r: Registers, words: usize, n: u64, mem: &mut [u16]) -> Worked
-    ensures { λ q. ⌜ outcome q (now (mem .exit)) ≡ freshDone r words n (now (mem .entry)) ⌝ }
+// The line that asks for a memory of that wiring.
+fn fresh_letter(w: Wiring) -> u8
+    ensures { λ l. ⌜ l ≡ freshLetter w ⌝ }
+{
+    match w {
+        Wiring::Folded => b'M',
+        Wiring::Open => b'O',
+    }
+}
+
+// `M n`, `O n`: fresh registers, so wired, and a memory of n zero words.
+fn fresh(w: Wiring, r: Registers, words: usize, n: u64, mem: &mut [u16]) -> Worked
+    ensures { λ q. ⌜ outcome q (now (mem .exit)) ≡ freshDone w r words n (now (mem .entry)) ⌝ }
 {
     let wanted = n as usize;
-    if !units::length_right(wanted) {
+    let letter = fresh_letter(w);
+    if !units::length_right(w, wanted) {
         return Worked {
             regs: r,
             words: words,
-            reply: Reply::One(b'M', 2),
+            reply: Reply::One(letter, 2),
         };
     }
     clear_first(mem, wanted);
     Worked {
-        regs: registers::fresh(),
+        regs: wirings::wired(registers::fresh(), w),
         words: wanted,
-        reply: Reply::One(b'M', 0),
+        reply: Reply::One(letter, 0),
     }
 }
 
@@ -87,7 +100,7 @@ pub fn memory_done(r: Registers, words: usize, m: Memory, mem: &mut [u16]) -> Wo
     ensures { λ q. ⌜ outcome q (now (mem .exit)) ≡ memoryDone r words m (now (mem .entry)) ⌝ }
 {
     match m {
-        Memory::Fresh(n) => fresh(r, words, n, mem),
+        Memory::Fresh(w, n) => fresh(w, r, words, n, mem),
         Memory::Run(n) => run(run_within(r, mem, words, n), words),
         Memory::Word(a, v) => Worked {
             regs: r,

@@ -1,4 +1,5 @@
 // The lines that show the registers and the memory.
+use console::output::begun;
 use console::output::character;
 use console::output::padded;
 use console::output::unknown;
@@ -37,11 +38,18 @@ fn digest_shown(mem: &[u16], out: &mut [u8], held: usize) -> usize {
     character(out, b, b'\n')
 }
 
+// `F 108`
+fn wiring_shown(r: Registers, out: &mut [u8], held: usize) -> usize {
+    let a = begun(out, held, b'F', &crate::fields::wiring_fields(r));
+    character(out, a, b'\n')
+}
+
 // What a line that shows something writes; how many characters are held then.
 pub fn shown(r: Registers, s: Show, mem: &[u16], out: &mut [u8], held: usize) -> usize {
     match s {
         Show::Registers => registers_shown(r, out, held),
         Show::Words(a, n) => words_shown(a, n, mem, out, held),
         Show::Digest => digest_shown(mem, out, held),
+        Show::Wired => wiring_shown(r, out, held),
     }
 }

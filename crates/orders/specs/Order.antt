@@ -3,13 +3,14 @@
 use Prim.Native.Nat.{ℕ}
 use mathlib.Core.Bool.{cond}
 use lib.Dec.{ltb, eqb}
+use Rattle.dots.specs.declared.Wiring.the-variants.{Folded, Open}
 use Rattle.script.specs.declared.Line.{Line}
 use Rattle.script.specs.declared.Line.the-variants as line
 use Rattle.orders.specs.declared.Order.{Order}
-use Rattle.orders.specs.declared.Order.the-variants.{Unknown, OfPort, OfMemory, OfShow, OfPaper, Translate, Draw}
+use Rattle.orders.specs.declared.Order.the-variants.{Unknown, OfPort, OfMemory, OfShow, OfPaper, Translate, Draw, Wire}
 use Rattle.orders.specs.declared.Port.the-variants.{Command, Parameter, Pen, Read, Status}
 use Rattle.orders.specs.declared.Memory.the-variants.{Fresh, Word, Run}
-use Rattle.orders.specs.declared.Show.the-variants.{Registers, Words, Digest}
+use Rattle.orders.specs.declared.Show.the-variants.{Registers, Words, Digest, Wired}
 use Rattle.orders.specs.declared.Paper.the-variants.{Size, NoGlyphs, Glyphs, NoSheet, More}
 
 -- an order, if a number is at most the largest that the line takes
@@ -24,14 +25,15 @@ byteOrder letter n =
     (cond (eqb letter 80) (OfPort (Parameter n))
     Unknown))
 
--- a letter and a number "up to FFFFFFFF": "L a", "U n", "T n"
+-- a letter and a number "up to FFFFFFFF": "L a", "U n", "T n", "O n"
 unfoldable pub wideOrder : ℕ → ℕ → Order
 wideOrder letter n =
     upTo 0xFFFFFFFF n
     (cond (eqb letter 76) (OfPort (Pen n))
     (cond (eqb letter 85) (OfMemory (Run n))
     (cond (eqb letter 84) (Translate n)
-    (byteOrder letter n))))
+    (cond (eqb letter 79) (OfMemory (Fresh Open n))
+    (byteOrder letter n)))))
 
 -- "W a v": "v at most FFFF"; a is held against the memory
 unfoldable pub wordOrder : ℕ → ℕ → Order
@@ -40,6 +42,18 @@ wordOrder a v = upTo 0xFFFF v (OfMemory (Word a v))
 -- "Q p h": "each up to FFFFFFFF"
 unfoldable pub sizeOrder : ℕ → ℕ → Order
 sizeOrder p h = upTo 0xFFFFFFFF p (upTo 0xFFFFFFFF h (OfPaper (Size p h)))
+
+-- "what a request adds to the register set is shown by `F` and, where no port can change it, put by `J`. In `F`, `J` the first field is
+-- the request's number, written as it is printed": as every field it was read as hexadecimal. "F 108": "the wiring"
+unfoldable pub fieldOrder : ℕ → Order
+fieldOrder request = cond (eqb request 0x108) (OfShow Wired) Unknown
+
+-- "J 108 v": "the wiring becomes v (0 or 1)", "0 folded, 1 open"
+unfoldable pub wiringOrder : ℕ → Order
+wiringOrder v = cond (eqb v 0) (Wire Folded) (cond (eqb v 1) (Wire Open) Unknown)
+
+unfoldable pub putOrder : ℕ → ℕ → Order
+putOrder request v = cond (eqb request 0x108) (wiringOrder v) Unknown
 
 -- a letter alone: R, S, D, H, G, Z, X
 unfoldable pub bareOrder : ℕ → Order
@@ -53,17 +67,21 @@ bareOrder letter =
     (cond (eqb letter 88) Draw
     Unknown))))))
 
--- a letter and a number: "M n", of which any number is taken, and those above
+-- a letter and a number: "M n", of which any number is taken, F, and those above
 unfoldable pub oneOrder : ℕ → ℕ → Order
-oneOrder letter n = cond (eqb letter 77) (OfMemory (Fresh n)) (wideOrder letter n)
+oneOrder letter n =
+    cond (eqb letter 77) (OfMemory (Fresh Folded n))
+    (cond (eqb letter 70) (fieldOrder n)
+    (wideOrder letter n))
 
--- a letter and two numbers: W, V, Q
+-- a letter and two numbers: W, V, Q, J
 unfoldable pub twoOrder : ℕ → ℕ → ℕ → Order
 twoOrder letter a b =
     cond (eqb letter 87) (wordOrder a b)
     (cond (eqb letter 86) (OfShow (Words a b))
     (cond (eqb letter 81) (sizeOrder a b)
-    Unknown))
+    (cond (eqb letter 74) (putOrder a b)
+    Unknown)))
 
 -- a letter and bytes: G, B
 unfoldable pub bytesOrder : ℕ → Order

@@ -1,4 +1,5 @@
 // What a line of the bench's script asks for: its letter, and the range of each of its numbers (docs/BENCH.md).
+use dots::Wiring;
 use script::Line;
 ghost use mathlib.Core.Path.{_≡_};
 ghost use Rattle.orders.specs.Order.{
@@ -6,6 +7,9 @@ ghost use Rattle.orders.specs.Order.{
   wideOrder,
   wordOrder,
   sizeOrder,
+  fieldOrder,
+  wiringOrder,
+  putOrder,
   bareOrder,
   oneOrder,
   twoOrder,
@@ -22,18 +26,19 @@ pub enum Port {
     Status,
 }
 
-// To the memory: a fresh one, a word of it, a run over it.
+// To the memory: a fresh one of a wiring, a word of it, a run over it.
 pub enum Memory {
-    Fresh(u64),
+    Fresh(Wiring, u64),
     Word(u64, u16),
     Run(u32),
 }
 
-// To be shown: the registers, words of the memory, its digest.
+// To be shown: the registers, words of the memory, its digest, its wiring.
 pub enum Show {
     Registers,
     Words(u64, u64),
     Digest,
+    Wired,
 }
 
 // To the papers that a translation needs: the picture's size, the glyph table, the sheet.
@@ -45,7 +50,7 @@ pub enum Paper {
     More,
 }
 
-// What a line asks for; of the sheet its translation into a room of entries, and its drawing.
+// What a line asks for; of the sheet its translation into a room of entries, and its drawing; of the board another wiring.
 pub enum Order {
     Unknown,
     OfPort(Port),
@@ -54,6 +59,7 @@ pub enum Order {
     OfPaper(Paper),
     Translate(u32),
     Draw,
+    Wire(Wiring),
 }
 
 // A letter and a byte.
@@ -83,6 +89,7 @@ fn wide_order(letter: u8, n: u64) -> Order
         b'L' => Order::OfPort(Port::Pen(m)),
         b'U' => Order::OfMemory(Memory::Run(m)),
         b'T' => Order::Translate(m),
+        b'O' => Order::OfMemory(Memory::Fresh(Wiring::Open, n)),
         _ => byte_order(letter, m),
     }
 }
@@ -110,6 +117,37 @@ fn size_order(p: u64, h: u64) -> Order
     Order::OfPaper(Paper::Size(p as u32, h as u32))
 }
 
+// `F request`: a field that a request added to the register set. Its number is decimal as it is printed, and was read as hexadecimal.
+fn field_order(request: u64) -> Order
+    ensures { λ r. ⌜ r ≡ fieldOrder request ⌝ }
+{
+    match request {
+        0x108 => Order::OfShow(Show::Wired),
+        _ => Order::Unknown,
+    }
+}
+
+// `J 108 v`
+fn wiring_order(v: u64) -> Order
+    ensures { λ r. ⌜ r ≡ wiringOrder v ⌝ }
+{
+    match v {
+        0 => Order::Wire(Wiring::Folded),
+        1 => Order::Wire(Wiring::Open),
+        _ => Order::Unknown,
+    }
+}
+
+// `J request v`: such a field becomes v.
+fn put_order(request: u64, v: u64) -> Order
+    ensures { λ r. ⌜ r ≡ putOrder request v ⌝ }
+{
+    match request {
+        0x108 => wiring_order(v),
+        _ => Order::Unknown,
+    }
+}
+
 // A letter alone.
 fn bare_order(letter: u8) -> Order
     ensures { λ r. ⌜ r ≡ bareOrder letter ⌝ }
@@ -131,7 +169,8 @@ fn one_order(letter: u8, n: u64) -> Order
     ensures { λ r. ⌜ r ≡ oneOrder letter n ⌝ }
 {
     match letter {
-        b'M' => Order::OfMemory(Memory::Fresh(n)),
+        b'M' => Order::OfMemory(Memory::Fresh(Wiring::Folded, n)),
+        b'F' => field_order(n),
         _ => wide_order(letter, n),
     }
 }
@@ -144,6 +183,7 @@ fn two_order(letter: u8, a: u64, b: u64) -> Order
         b'W' => word_order(a, b),
         b'V' => Order::OfShow(Show::Words(a, b)),
         b'Q' => size_order(a, b),
+        b'J' => put_order(a, b),
         _ => Order::Unknown,
     }
 }

@@ -1,10 +1,12 @@
 // Draws a sheet: the sheet on standard input, the picture as a portable bitmap (PBM, P4) on standard output.
 //
-//     picture [GLYPHS [P [H [WORDS]]]] < SHEET > PICTURE
+//     picture [GLYPHS [P [H [WORDS [WIRING]]]]] < SHEET > PICTURE
 //
-// GLYPHS is a file of eight bytes a glyph, or '-' for none; P 40, H 400 and 16,384 words of memory unless others are given. Where
-// anything is wrong it says so in a sentence on standard error and writes no picture.
+// GLYPHS is a file of eight bytes a glyph, or '-' for none; P 40, H 400 and 16,384 words of memory unless others are given. WIRING is
+// open or folded; folded unless it is given. Where anything is wrong it says so in a sentence on standard error and writes no picture.
 use decimals::Number;
+use dots::Wiring;
+use wirings::Named;
 
 // Argument i as a number, or the usual one where it is not given.
 fn number_at(i: usize, usual: u32) -> Number {
@@ -64,10 +66,11 @@ fn show(mem: &[u16], p: u32, h: u32) {
     show_by(mem, p, h, &mut room);
 }
 
-// The sheet is drawn from fresh registers over a memory of zeros.
-fn draw(sheet: &[u8], p: u32, h: u32, glyphs: &[u8], mem: &mut [u16]) {
+// The sheet is drawn from fresh registers, so wired, over a memory of zeros.
+fn draw(sheet: &[u8], p: u32, h: u32, glyphs: &[u8], wiring: Wiring, mem: &mut [u16]) {
     let mut entries = [0u16; 128802];
-    let d = drawing::draw_sheet(sheet, p, h, glyphs, registers::fresh(), &mut entries, mem);
+    let r = wirings::wired(registers::fresh(), wiring);
+    let d = drawing::draw_sheet(sheet, p, h, glyphs, r, &mut entries, mem);
     if d.number != 0 {
         sentences::say_refusal(2, d.number, d.first, d.second);
         return;
@@ -76,21 +79,21 @@ fn draw(sheet: &[u8], p: u32, h: u32, glyphs: &[u8], mem: &mut [u16]) {
 }
 
 // The sheet is read, and drawn in that many words.
-fn picture_of(p: u32, h: u32, glyphs: &[u8], words: usize, mem: &mut [u16]) {
+fn picture_of(p: u32, h: u32, glyphs: &[u8], words: usize, wiring: Wiring, mem: &mut [u16]) {
     let mut sheet = [0u8; 8193];
     let n = io::read_full(0, &mut sheet);
     let w = buffers::words_used(words, mem);
-    draw(&sheet[..n], p, h, glyphs, &mut mem[..w]);
+    draw(&sheet[..n], p, h, glyphs, wiring, &mut mem[..w]);
 }
 
 // The picture with a table of glyphs.
-fn picture_with(p: u32, h: u32, glyphs: &[u8], words: u32) {
+fn picture_with(p: u32, h: u32, glyphs: &[u8], words: u32, wiring: Wiring) {
     let mut mem = [0u16; 262144];
-    picture_of(p, h, glyphs, words as usize, &mut mem);
+    picture_of(p, h, glyphs, words as usize, wiring, &mut mem);
 }
 
 // The glyphs are read.
-fn picture_in(p: u32, h: u32, words: u32) {
+fn picture_in(p: u32, h: u32, words: u32, wiring: Wiring) {
     if 262144 < words {
         complain(b"a memory has at most 262144 words");
         return;
@@ -101,16 +104,20 @@ fn picture_in(p: u32, h: u32, words: u32) {
         return;
     };
     let g = buffers::bytes_used(read, &glyphs);
-    picture_with(p, h, &glyphs[..g], words);
+    picture_with(p, h, &glyphs[..g], words, wiring);
 }
 
 fn wrong_number() {
     complain(b"P, H and WORDS are decimal numbers of 32 bits");
 }
 
+fn wrong_wiring() {
+    complain(b"WIRING is open or folded");
+}
+
 fn main() {
-    if 5 < os::arg_count() {
-        complain(b"there are at most four arguments, GLYPHS P H WORDS");
+    if 6 < os::arg_count() {
+        complain(b"there are at most five arguments, GLYPHS P H WORDS WIRING");
         return;
     }
     let Number::Is(p) = number_at(2, 40) else {
@@ -122,5 +129,8 @@ fn main() {
     let Number::Is(words) = number_at(4, 16384) else {
         return wrong_number();
     };
-    picture_in(p, h, words);
+    let Named::Is(wiring) = wirings::wiring_at(5) else {
+        return wrong_wiring();
+    };
+    picture_in(p, h, words, wiring);
 }

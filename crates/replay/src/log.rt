@@ -123,5 +123,7 @@ pub fn refused_plane(number: u8) {
 }
 
 pub fn usage() {
-    say(b"replay: there are three arguments, P H WORDS, each a decimal number of 32 bits\n");
+    say(
+        b"replay: there are three arguments, P H WORDS, each a decimal number of 32 bits, and after them may stand open or folded\n",
+    );
 }

@@ -1,23 +1,27 @@
 // Replays a record of the bus: its events on standard input, one to a line, its pictures as a stream of portable bitmaps (PBM, P4) on
 // standard output.
 //
-//     replay P H WORDS < RECORD > PICTURES
+//     replay P H WORDS [WIRING] < RECORD > PICTURES
 //
+// WIRING is open or folded; folded unless it is given.
 // What was refused, what was no event and how much there was of everything is said on standard error (docs/REPLAY.md).
 use console::reader::Reader;
 use decimals::Number;
+use dots::Wiring;
 use events::Event;
 use log::Tally;
+use wirings::Named;
 ghost use mathlib.Core.Path.{_≡_};
 ghost use Prim.Native.Nat.{_<_};
 ghost use Rattle.replay.specs.Plane.{planeRefused};
 
 mod log;
 
-// The picture's size: words in a line, and lines.
+// The picture's size: words in a line, and lines; and how the memory is wired.
 pub struct Plane {
     pub across: u32,
     pub down: u32,
+    pub wiring: Wiring,
 }
 
 // How far the record is read, what was counted, and what the line that was read says.
@@ -118,7 +122,7 @@ fn start() -> Told {
 
 // A proved loop has to end, and nothing says that a record does: the turns are counted down from a number that no run uses up.
 fn turns(input: &mut [u8], line: &mut [u8], plane: Plane, mem: &mut [u16], room: &mut [u8]) {
-    let mut regs = registers::fresh();
+    let mut regs = wirings::wired(registers::fresh(), plane.wiring);
     let mut told = start();
     let mut left = u64::MAX;
     while 0 < left {
@@ -153,11 +157,11 @@ fn replay_with(plane: Plane, words: u32) {
     replay_at(plane, words, &mut mem);
 }
 
-// The number with which a plane and a memory are refused, or 0.
-fn plane_refused(p: u32, h: u32, words: u32) -> u8
-    ensures { λ n. ⌜ n ≡ planeRefused p h words ⌝ }
+// The number with which a plane and a memory, so wired, are refused, or 0.
+fn plane_refused(wiring: Wiring, p: u32, h: u32, words: u32) -> u8
+    ensures { λ n. ⌜ n ≡ planeRefused wiring p h words ⌝ }
 {
-    if !units::length_right(words as usize) {
+    if !units::length_right(wiring, words as usize) {
         return 2;
     }
     if !refusals::plane_fits(p, h) {
@@ -177,16 +181,16 @@ fn number_at(i: usize) -> Number {
 }
 
 // The plane and the memory are there, or are refused.
-fn replay_on(p: u32, h: u32, words: u32) {
-    let n = plane_refused(p, h, words);
+fn replay_on(plane: Plane, words: u32) {
+    let n = plane_refused(plane.wiring, plane.across, plane.down, words);
     if n != 0 {
         return log::refused_plane(n);
     }
-    replay_with(Plane { across: p, down: h }, words);
+    replay_with(plane, words);
 }
 
 fn main() {
-    if os::arg_count() != 4 {
+    if (os::arg_count() < 4) | (5 < os::arg_count()) {
         return log::usage();
     }
     let Number::Is(p) = number_at(1) else {
@@ -198,5 +202,13 @@ fn main() {
     let Number::Is(words) = number_at(3) else {
         return log::usage();
     };
-    replay_on(p, h, words);
+    let Named::Is(wiring) = wirings::wiring_at(4) else {
+        return log::usage();
+    };
+    let plane = Plane {
+        across: p,
+        down: h,
+        wiring: wiring,
+    };
+    replay_on(plane, words);
 }

@@ -1,7 +1,7 @@
 -- A line of the script: a letter, and the fields after it, each behind one space.
 use Prim.Native.Nat.{ℕ, _+_, suc}
 use mathlib.Core.List.{List, [], _∷_}
-use mathlib.Core.Bool.{cond}
+use mathlib.Core.Bool.{Bool, true, false, cond}
 use lib.Dec.{ltb, eqb}
 use lib.ListN.{length, getD, take, drop}
 use Rattle.script.specs.declared.Number.{Number}
@@ -14,6 +14,10 @@ use Rattle.script.specs.Digits.{numberOf}
 unfoldable pub spanOf : List ℕ → ℕ
 spanOf [] = 0
 spanOf (b ∷ l) = cond (eqb b 32) 0 (suc (spanOf l))
+
+-- "In `F`, `J` the first field is the request's number, written as it is printed": no 0 stands before it
+unfoldable pub paddedB : ℕ → List ℕ → Bool
+paddedB letter s = cond (eqb (getD s 0 0) 48) (cond (eqb letter 70) true (cond (eqb letter 74) true false)) false
 
 unfoldable pub oneOf : ℕ → Number → Line
 oneOf letter number.Bad = Bad
@@ -30,8 +34,9 @@ twoOf letter (number.Is m) b = secondOf letter m b
 -- one field, or two, the second being all that stands after the first space
 unfoldable pub fieldsOf : ℕ → List ℕ → Line
 fieldsOf letter s =
-    cond (eqb (spanOf s) (length s)) (oneOf letter (numberOf s))
-    (twoOf letter (numberOf (take (spanOf s) s)) (numberOf (drop (spanOf s + 1) s)))
+    cond (paddedB letter s) Bad
+    (cond (eqb (spanOf s) (length s)) (oneOf letter (numberOf s))
+    (twoOf letter (numberOf (take (spanOf s) s)) (numberOf (drop (spanOf s + 1) s))))
 
 -- what follows a letter and a space: bytes after G and B, else fields
 abbrev pub restOf : ℕ → List ℕ → Line

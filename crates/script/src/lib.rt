@@ -3,7 +3,7 @@ ghost use mathlib.Core.Path.{_≡_};
 ghost use Prim.Native.Nat.{_≤_};
 ghost use lib.ListN.{length};
 ghost use Rattle.script.specs.Digits.{digitOf, more, numberOf, bytesB, byteOf, bytesPut};
-ghost use Rattle.script.specs.Line.{spanOf, oneOf, twoOf, fieldsOf, lineOf};
+ghost use Rattle.script.specs.Line.{spanOf, paddedB, oneOf, twoOf, fieldsOf, lineOf};
 
 // What a field says, if it is a number.
 pub enum Number {
@@ -83,6 +83,23 @@ fn end_of(s: &[u8]) -> usize
     i
 }
 
+// Whether the number of a request, behind F or J, has a 0 before it.
+fn padded(letter: u8, s: &[u8]) -> bool
+    ensures { λ r. ⌜ r ≡ paddedB letter (now (s .entry)) ⌝ }
+{
+    if s.len() == 0 {
+        return false;
+    }
+    if s[0] != b'0' {
+        return false;
+    }
+    match letter {
+        b'F' => true,
+        b'J' => true,
+        _ => false,
+    }
+}
+
 fn one_field(letter: u8, a: Number) -> Line
     ensures { λ r. ⌜ r ≡ oneOf letter a ⌝ }
 {
@@ -108,6 +125,9 @@ fn two_fields(letter: u8, a: Number, b: Number) -> Line
 fn fields(letter: u8, s: &[u8]) -> Line
     ensures { λ r. ⌜ r ≡ fieldsOf letter (now (s .entry)) ⌝ }
 {
+    if padded(letter, s) {
+        return Line::Bad;
+    }
     let e = end_of(s);
     if e == s.len() {
         return one_field(letter, number_of(s));

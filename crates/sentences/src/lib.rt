@@ -1,10 +1,14 @@
-// What a number of refusal means, in the words of document 01 and of 02's M-100: the sentence that `listing`, `picture` and `replay` say.
+// What a number of refusal means, in the words of document 01 and of 02's M-100 and M-108: the sentence that `listing`, `picture` and
+// `replay` say.
 
 // What was refused, and why.
 fn say_meaning(fd: i32, number: u8) -> bool {
     match number {
         1 => io::write_all(fd, b"the register set is unsound"),
-        2 => io::write_all(fd, b"the memory's length is wrong"),
+        2 => io::write_all(
+            fd,
+            b"the memory's length is wrong (16 to 262,144 words, with folded wiring a power of two)",
+        ),
         3 => io::write_all(fd, b"in write mode the buffer holds 16"),
         4 => io::write_all(fd, b"a parameter byte in read mode"),
         11 => io::write_all(fd, b"P, H or P times H is out of range"),

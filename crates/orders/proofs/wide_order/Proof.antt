@@ -28,10 +28,15 @@ returns-4 c = rw (le-ltb 4294967295 _ (c .before .if1 .left), c .match .keys3)
 
 returns-5 : tie.Need-returns-5
 unfolding wideOrder
-returns-5 c = let n = c .before .match .rest in
+returns-5 c = rw (le-ltb 4294967295 _ (c .before .if1 .left), c .match .keys4)
+
+returns-6 : tie.Need-returns-6
+unfolding wideOrder
+returns-6 c = let n = c .before .match .rest in
     rw (
       c .byte-order .ensures,
       le-ltb 4294967295 _ (c .before .before .if1 .left),
+      ne-eqb _ _ (n .0 .0 .0 .1),
       ne-eqb _ _ (n .0 .0 .1),
       ne-eqb _ _ (n .0 .1),
       ne-eqb _ _ (n .1),
@@ -39,4 +44,5 @@ returns-5 c = let n = c .before .match .rest in
 
 pub wide-order-spec : {M : Type 1} → statement M
 wide-order-spec =
-    tie.close (tie.spec returns cast-m byte-order-requires returns-2 returns-3 returns-4 returns-5)
+    tie.close
+    (tie.spec returns cast-m byte-order-requires returns-2 returns-3 returns-4 returns-5 returns-6)

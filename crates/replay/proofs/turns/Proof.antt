@@ -15,6 +15,9 @@ abbrev μ-loop : tie.MeasureT-loop
 fresh-requires : tie.Need-fresh-requires Inv-loop μ-loop
 fresh-requires c κs = search needs
 
+wired-requires : tie.Need-wired-requires Inv-loop μ-loop
+wired-requires c κs = search needs
+
 start-requires : tie.Need-start-requires Inv-loop μ-loop
 start-requires c κs = search needs
 
@@ -80,6 +83,7 @@ turns-spec =
     Inv-loop
     μ-loop
     fresh-requires
+    wired-requires
     start-requires
     loop-holds
     next-requires

@@ -1,0 +1,23 @@
+-- The fields that 02's requests added to the register set: "what a request adds to the register set is shown by `F` and, where no port
+-- can change it, put by `J`".
+use Prim.Native.Nat.{ℕ}
+use mathlib.Core.List.{List, [], _∷_}
+use Rattle.dots.specs.declared.Wiring.{Wiring}
+use Rattle.dots.specs.declared.Wiring.the-variants.{Folded, Open}
+use Rattle.registers.specs.declared.Registers.{Registers}
+use Rattle.wirings.specs.Wired.{wiredAs}
+use Rattle.console.specs.declared.desk.Done.{Done}
+use Rattle.console.specs.declared.desk.Reply.the-variants.{One}
+
+-- `J 108 v`: "the wiring becomes v (0 or 1); the memory stays, of whatever length": "`J 0`"
+abbrev pub wiringDone : Registers → Wiring → Done
+wiringDone r w = record { regs = wiredAs w r; reply = One 74 0 }
+
+-- "0 folded, 1 open"
+abbrev pub wiringNumber : Wiring → ℕ
+wiringNumber Folded = 0
+wiringNumber Open = 1
+
+-- "`F 108 w`", the request's number "written as it is printed"
+abbrev pub wiringFields : Registers → List ℕ
+wiringFields r = 0x108 ∷ wiringNumber (r .board .wiring) ∷ []
