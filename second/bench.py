@@ -53,9 +53,8 @@ def some_bytes(text):
 
 def wirings_alone(request):
     # "In `F`, `J` the first field is the request's number, written as it is
-    # printed": the digits 108, a number like every other field. The other
-    # requests that have a field have not landed.
-    if number(request) != 0x108:
+    # printed". The other requests that have a field have not landed.
+    if request != "108":
         raise Malformed
 
 

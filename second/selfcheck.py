@@ -461,12 +461,7 @@ def check_wirings():
     # Refused: all stays as it was. The fresh set is folded, M is, O is open.
     talk("which wiring", "F 108; O 18; F 108; O F; M 18; F 108; V 17 1; C 0; F 108; M 10; F 108; J 108 1; F 108; J 108 0; F 108",
          "F 108 0; F 108 1; O 2; M 2; F 108 1; V 0; F 108 1; F 108 0; F 108 1; F 108 0")
-    # Leading zeros may stand before 108; the answer has none.
-    talk("108 with zeros before it", "O 18; F 0108; J 0108 0; F 108; J 000000000108 01; F 000000000108",
-         "F 108 1; F 108 0; F 108 1")
-    check("the answer to J 0108 0", Bench().answer("J 0108 0"), "J 0")
-    for line in ("F", "F 107", "F 0107", "F 1080", "F 01080", "F 6C", "F 100000108", "F 108 0", "F 0108 0", "F 10",
-                 "J 108", "J 0108", "J 108 2", "J 0108 2", "J 108 0 0", "J 107 0", "J 0107 0", "J 6C 0", "J 100000108 0",
+    for line in ("F", "F 107", "F 1080", "F 0108", "F 108 0", "F 10", "J 108", "J 108 2", "J 108 0 0", "J 107 0", "J 0108 1",
                  "J 108 a", "O", "O 10 10", "O g", "O 1a", "O 100000000", "f 108", "o 10", "j 108 0"):
         check("line %r" % line, Bench().answer(line), "?")
 

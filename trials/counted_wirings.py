@@ -121,4 +121,4 @@ def count_x_of_wirings(bench):
 
 def count_malformed_field(letter, fields):
     if letter in ("F", "J") and fields:
-        reached("? for %s %s" % (letter, "108" if fields[0].lstrip("0") == "108" else "of no request or another"))
+        reached("? for %s %s" % (letter, "108" if fields[0] == "108" else "of no request or another"))
