@@ -5,7 +5,7 @@
 enum { WORDS = 4096, MOST = 600 };
 static const uint32_t WHOLE = 0xFFFFFFFF;
 static uint16_t ours[WORDS], theirs[WORDS];
-static const size_t length = WORDS;
+static size_t length = WORDS;
 
 // ---- numbers that look random and are the same on each day
 static uint32_t seed = 7220;
@@ -73,6 +73,7 @@ static struct kranichseil_registers with_arc(struct kranichseil_registers r) {
 }
 static struct kranichseil_registers some_set(void) {
     struct kranichseil_registers r = kranichseil_fresh();
+    r.board.wiring = (uint8_t)random_below(2);
     make_list(random_below(40));
     sent(&r, list, count, ours);
     if (random_below(4) == 0) r = kranichseil_pen(r, random_below(262144)).regs;
@@ -145,6 +146,22 @@ static void lists(void) {
     }
 }
 
+// ---- open wiring and any length: what is past it stays
+static void odd_lengths(void) {
+    static uint16_t before[WORDS];
+    for (int i = 0; i < 60; i++) {
+        struct kranichseil_registers r = some_set();
+        r.board.wiring = KRANICHSEIL_OPEN;
+        make_list(60);
+        fill();
+        memcpy(before, ours, sizeof ours);
+        length = 16 + random_below(WORDS - 15);
+        in_parts(r, __LINE__);
+        IS(memcmp(ours + length, before + length, (WORDS - length) * sizeof *ours), 0);
+    }
+    length = WORDS;
+}
+
 // ---- entries past nine bits: 256 or more is a command, whose byte is the low eight bits
 static void past_nine_bits(void) {
     static const uint16_t past[] = {0x0200, 0x0249, 0x0349, 0x4C4C, 0x8049, 0xFF6C, 0xFFFF, 0x1000, 0x016C};
@@ -191,17 +208,17 @@ static void wrong_sets(void) {
     WRONG(work.kind = KRANICHSEIL_ARC); WRONG(drawing.kind = 4; r.work.kind = KRANICHSEIL_ARC); // an arc of no cycles: DM is past DC
     WRONG(drawing.kind = 4; r.drawing.dm = 0; r.work.kind = KRANICHSEIL_ARC; r.work.dot = 1);
     WRONG(drawing.kind = 4; r.drawing.dm = 0; r.work.kind = KRANICHSEIL_ARC; r.work.d2 = 16384);
-    WRONG(mode = KRANICHSEIL_READ; r.buffer.count = 1; r.buffer.entries[0] = 256);
+    WRONG(mode = KRANICHSEIL_READ; r.buffer.count = 1; r.buffer.entries[0] = 256); WRONG(board.wiring = 2); WRONG(board.wiring = 128);
 }
 
 static void wrong_lengths(void) {
-    static const size_t wrong[] = {0, 1, 8, 15, 17, 48, 4095, 262143, 262145, 524288, (size_t)1 << 40};
+    static const size_t wrong[] = {0, 1, 8, 15, 262145, 524288, (size_t)1 << 40, 17, 48, 4095, 262143}; // the last four if folded
     fill();
     for (int i = 0; i < 40; i++) {
         struct kranichseil_registers r = some_set(), kept = r;
         make_list(i == 0 ? 0 : 20);
         memcpy(theirs, ours, sizeof ours);
-        for (size_t k = 0; k < sizeof wrong / sizeof *wrong; k++) {
+        for (size_t k = 0; k < (r.board.wiring ? 7 : 11); k++) {
             got = kranichseil_board_send(&r, list, count, ours, wrong[k]);
             IS(got.number, 2); IS(got.taken, 0); IS(got.units, 0); IS(same(&r, &kept), 1);
         }
@@ -305,6 +322,7 @@ static void bus(void) {
 
 int main(void) {
     section("lists", lists);
+    section("odd lengths", odd_lengths);
     section("entries past nine bits", past_nine_bits);
     section("wrong sets", wrong_sets);
     section("wrong lengths", wrong_lengths);

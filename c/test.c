@@ -1,7 +1,7 @@
 // Drives the archive from C: the layout of the header, document 01's worked cases, an arc and circles (02, M-100), every number of refusal.
 // Expected values are 01's and 02's, written by hand. Ends with status 0 and `0 failed`, or says which lines failed. tools/ctest builds
 // and runs it.
-#include "check.h"
+#include "drive.h"
 
 // ---- the header's layout
 #define AT(type, field, offset) _Static_assert(offsetof(struct kranichseil_##type, field) == (offset), #type "." #field)
@@ -15,46 +15,23 @@ SIZE(buffer, 34); AT(buffer, entries, 0); AT(buffer, count, 32);
 SIZE(progress, 4); AT(progress, command, 0); AT(progress, transfer, 1); AT(progress, next, 2); AT(progress, low, 3);
 SIZE(work, 32); AT(work, kind, 0); AT(work, transfer, 1); AT(work, d, 2); AT(work, d1, 4); AT(work, d2, 6); AT(work, item, 8);
 AT(work, dot, 12); AT(work, row, 16); AT(work, column, 20); AT(work, start, 24);
-SIZE(registers, 136); AT(registers, cursor, 0); AT(registers, pitch, 8); AT(registers, drawing, 10); AT(registers, op, 24);
+SIZE(board, 1); AT(board, wiring, 0);
+SIZE(registers, 140); AT(registers, cursor, 0); AT(registers, pitch, 8); AT(registers, drawing, 10); AT(registers, op, 24);
 AT(registers, ram, 25); AT(registers, video, 41); AT(registers, pen, 56); AT(registers, mode, 64); AT(registers, buffer, 66);
-AT(registers, progress, 100); AT(registers, work, 104);
-SIZE(answer, 140); AT(answer, number, 0); AT(answer, value, 1); AT(answer, regs, 4);
-SIZE(ran, 148); AT(ran, number, 0); AT(ran, count, 4); AT(ran, why, 8); AT(ran, regs, 12);
+AT(registers, progress, 100); AT(registers, work, 104); AT(registers, board, 136);
+SIZE(answer, 144); AT(answer, number, 0); AT(answer, value, 1); AT(answer, regs, 4);
+SIZE(ran, 152); AT(ran, number, 0); AT(ran, count, 4); AT(ran, why, 8); AT(ran, regs, 12);
 SIZE(report, 12); AT(report, number, 0); AT(report, count, 4); AT(report, why, 8);
 SIZE(reply, 2); AT(reply, number, 0); AT(reply, value, 1);
 SIZE(tally, 24); AT(tally, number, 0); AT(tally, taken, 8); AT(tally, units, 16);
 SIZE(translation, 12); AT(translation, number, 0); AT(translation, first, 4); AT(translation, second, 8);
 
-// ---- helpers
-static struct kranichseil_registers r;
-static uint16_t memory[262144];
-static size_t length = 16384;
-
-static void start(void) { r = kranichseil_fresh(); memset(memory, 0, sizeof memory); }
-static unsigned command(uint8_t b) { struct kranichseil_answer a = kranichseil_command(r, b); r = a.regs; return a.number; }
-static unsigned parameter(uint8_t b) { struct kranichseil_answer a = kranichseil_parameter(r, b); r = a.regs; return a.number; }
 static unsigned status(void) { return kranichseil_status(r).value; }
-static struct kranichseil_report run(uint32_t budget) { return kranichseil_board_run(&r, memory, length, budget); }
-static unsigned read_byte(void) {
-    struct kranichseil_answer a = kranichseil_read(r);
-    r = a.regs;
-    return a.number ? 1000u + a.number : a.value;
-}
-
-// a command and its parameters, and a run until nothing is left
-static void send(uint8_t c, const char *bytes, size_t n) {
-    IS(command(c), 0);
-    for (size_t i = 0; i < n; i++) {
-        if (r.buffer.count == 16) run(1000000);
-        IS(parameter((uint8_t)bytes[i]), 0);
-    }
-    run(1000000);
-}
-#define SEND(c, bytes) send(c, bytes, sizeof bytes - 1)
 
 // ---- each field stands in the archive where the header has it: set by the commands, looked at from C
 static void layout(void) {
     start();
+    IS(r.board.wiring, KRANICHSEIL_FOLDED);
     IS(r.drawing.d, 8); IS(r.drawing.d2, 8); IS(r.drawing.d1, 16383); IS(r.drawing.dm, 16383);
     SEND(0x00, "\x11\x12\x13\x14\x15\x16\x17\x18\x19");
     for (int i = 0; i < 8; i++) IS(r.video.sync[i], 0x11 + i);
@@ -135,27 +112,6 @@ static void worked(void) {
 }
 
 // ---- sheets
-static uint8_t sheet[17 * 512], glyphs[2056];
-static uint16_t out[17000];
-static struct kranichseil_translation t;
-
-static void check_word(int block) {
-    uint8_t *b = sheet + 512 * block;
-    unsigned sum = 7220;
-    for (int i = 0; i < 510; i += 2) sum += b[i] + 256u * b[i + 1];
-    b[510] = (uint8_t)sum; b[511] = (uint8_t)(sum >> 8);
-}
-// one block of one record
-static void record(const char *bytes) {
-    memset(sheet, 0, sizeof sheet);
-    sheet[2] = 1; sheet[3] = 1;
-    memcpy(sheet + 4, bytes, 10);
-    check_word(0);
-}
-static unsigned translate(uint32_t p, uint32_t h, size_t l, size_t g, size_t o) {
-    t = kranichseil_translate(sheet, l, p, h, glyphs, g, out, o);
-    return t.number;
-}
 // the translation sent to a fresh controller, which runs to its end
 static void draw(void) {
     start();
@@ -167,11 +123,6 @@ static void draw(void) {
     IS(run(1000000).why, 2);
 }
 static int dot(int x, int y) { return memory[40 * y + x / 16] >> x % 16 & 1; }
-static int dots(void) {
-    int n = 0;
-    for (size_t i = 0; i < length; i++) for (int b = 0; b < 16; b++) n += memory[i] >> b & 1;
-    return n;
-}
 
 // the dots of a circle: for each i those that lie out[i] out, in all eight octants
 static void circle(const char *bytes, int x, int y, const char *lies, int n, int count) {
@@ -227,15 +178,16 @@ static void refusals(void) {
     UNSOUND(pen.address = 262144); UNSOUND(buffer.count = 17); UNSOUND(progress.next = 17); UNSOUND(buffer.entries[0] = 512);
     // no register set: a bit that is 2, an enum's number out of range, an unused field that is not 0
     UNSOUND(drawing.gd = 2); UNSOUND(video.display = 2); UNSOUND(video.vsync = 255); UNSOUND(pen.set = 2);
-    UNSOUND(op = 4); UNSOUND(mode = 2); UNSOUND(progress.command = 18); UNSOUND(progress.transfer = 1); UNSOUND(work.kind = 5);
-    UNSOUND(work.transfer = 1); UNSOUND(work.d = 1); UNSOUND(work.item = 1); UNSOUND(work.dot = 1); UNSOUND(work.row = 1);
-    UNSOUND(work.column = 1); UNSOUND(work.start.ead = 1); UNSOUND(work.start.mask = 1);
+    UNSOUND(op = 4); UNSOUND(mode = 2); UNSOUND(board.wiring = 2); UNSOUND(board.wiring = 255);
+    UNSOUND(progress.command = 18); UNSOUND(progress.transfer = 1); UNSOUND(work.kind = 5); UNSOUND(work.transfer = 1);
+    UNSOUND(work.d = 1); UNSOUND(work.item = 1); UNSOUND(work.dot = 1); UNSOUND(work.row = 1); UNSOUND(work.column = 1);
+    UNSOUND(work.start.ead = 1); UNSOUND(work.start.mask = 1);
     UNSOUND(progress.command = KRANICHSEIL_WDAT; given.progress.transfer = 3);
     UNSOUND(work.kind = KRANICHSEIL_FIGURE; given.work.dot = 1);           // a place past its figure's end
     UNSOUND(work.kind = KRANICHSEIL_READING);                              // a read in write mode
-    static const size_t wrong[6] = {0, 8, 17, 48, 262143, 524288};
+    static const size_t wrong[7] = {0, 8, 17, 48, 24576, 262143, 524288};
     IS(command(0x6C), 0);
-    for (int i = 0; i < 6; i++) {
+    for (int i = 0; i < 7; i++) {
         given = r;
         struct kranichseil_ran n = kranichseil_run(r, memory, wrong[i], 5);
         struct kranichseil_report p = kranichseil_board_run(&given, memory, wrong[i], 5);

@@ -8,7 +8,8 @@
    Numbers of refusal, in `number`; 0 is success. On 1 to 6 the set comes back as given, with 0 for value, count and why; memory,
    sheet and output are unaltered by any refusal. A list of entries stops at one that is refused with 3 or 4: those before it
    stay taken.
-      1 register set unsound, or none                 2 memory length not a power of two, 16 to 262,144
+      1 register set unsound, or none                 2 memory length wrong by the wiring: folded, not a power of two from 16 to
+                                                        262,144; open, not from 16 to 262,144
       3 write mode and the buffer holds 16            4 parameter byte in read mode
       5 read with no byte to give                     6 pen address 262,144 or more
      11 P, H or P times H out of range                12 glyph bytes not a multiple of 8, or over 2,048
@@ -24,6 +25,7 @@
 
 enum { KRANICHSEIL_REPLACE, KRANICHSEIL_COMPLEMENT, KRANICHSEIL_CLEAR, KRANICHSEIL_SET };   /* op; 2 is 01's RESET */
 enum { KRANICHSEIL_WRITE, KRANICHSEIL_READ };                                               /* mode */
+enum { KRANICHSEIL_FOLDED, KRANICHSEIL_OPEN };                                              /* board.wiring */
 enum { KRANICHSEIL_WORD, KRANICHSEIL_LOW, KRANICHSEIL_HIGH };                               /* transfer */
 enum { KRANICHSEIL_IDLE, KRANICHSEIL_FIGURE, KRANICHSEIL_CHARACTER, KRANICHSEIL_READING, KRANICHSEIL_ARC }; /* work.kind */
 enum {                                                                                      /* progress.command */
@@ -79,7 +81,12 @@ struct kranichseil_work {               /* 32 bytes; what is in progress */
     struct kranichseil_cursor start;    /* 24: of a character: where the row started */
 };
 
-struct kranichseil_registers {          /* 136 bytes */
+struct kranichseil_board {              /* 1 byte; what the board is: C sets it, no port and no RESET changes it */
+    uint8_t wiring;                     /* 0: folded, an address meets the word of its remainder by the length; open, one at or past
+                                           the length meets none: it reads FFFF, a write there goes nowhere, its cycle counts */
+};
+
+struct kranichseil_registers {          /* 140 bytes */
     struct kranichseil_cursor cursor;   /* 0 */
     uint8_t pitch;                      /* 8 */
     struct kranichseil_drawing drawing; /* 10 */
@@ -91,15 +98,16 @@ struct kranichseil_registers {          /* 136 bytes */
     struct kranichseil_buffer buffer;   /* 66 */
     struct kranichseil_progress progress; /* 100 */
     struct kranichseil_work work;       /* 104 */
+    struct kranichseil_board board;     /* 136 */
 };
 
-struct kranichseil_answer {             /* 140 bytes; of a port */
+struct kranichseil_answer {             /* 144 bytes; of a port */
     uint8_t number;                     /* 0 */
     uint8_t value;                      /* 1: the byte read */
     struct kranichseil_registers regs;  /* 4 */
 };
 
-struct kranichseil_ran {                /* 148 bytes; of a run */
+struct kranichseil_ran {                /* 152 bytes; of a run */
     uint8_t number;                     /* 0 */
     uint32_t count;                     /* 4: units done */
     uint8_t why;                        /* 8 */
@@ -131,7 +139,7 @@ struct kranichseil_translation {        /* 12 bytes */
 extern "C" {
 #endif
 
-/* The fresh register set. */
+/* The fresh register set; its wiring is folded. */
 struct kranichseil_registers kranichseil_fresh(void);
 /* A byte to the command port: 1, 3. */
 struct kranichseil_answer kranichseil_command(struct kranichseil_registers r, uint8_t byte);

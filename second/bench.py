@@ -9,14 +9,16 @@ and the geometry (plane.py), all written from the paper alone.
 When a sheet is drawn (`X`) from a controller in write mode, with an empty
 buffer, nothing being drawn and a picture that fits, the memory afterwards is
 the one that the geometry paints, and an `assert` holds the controller to it.
+Under open wiring a larger picture is held to it too, cut off at the length.
 """
 
 import re
 import sys
 
-from chip import BUDGET_SPENT, WRITE_MODE, Chip, lawful_length
+from chip import BUDGET_SPENT, WRITE_MODE, Chip
 from plane import paint
 from sheet import Picture, Refused, fits, read_sheet, translate
+from wiring import FOLDED, OPEN, lawful_length
 
 LONGEST_LINE = 20000
 LARGEST = 0xFFFFFFFF
@@ -47,6 +49,13 @@ def some_bytes(text):
     if BYTES.fullmatch(text) is None:
         raise Malformed
     return bytes.fromhex(text)
+
+
+def wirings_alone(request):
+    # "In `F`, `J` the first field is the request's number, written as it is
+    # printed". The other requests that have a field have not landed.
+    if request != "108":
+        raise Malformed
 
 
 def two_digits(values):
@@ -100,11 +109,33 @@ class Bench:
     # ---------------------------------------------------- the controller
 
     def new_memory(self, length):
+        # "`M n` gives folded wiring and takes folded wiring's lengths."
         length = number(length)
-        if not lawful_length(length):
+        if not lawful_length(length, FOLDED):
             return "M 2"
         self.chip = self.chip_class(length)
         return "M 0"
+
+    def new_open_memory(self, length):
+        # "fresh registers but for the wiring, which is open, and a memory of
+        # n words (n up to FFFFFFFF), all zero"
+        length = number(length, LARGEST)
+        if not lawful_length(length, OPEN):
+            return "O 2"
+        self.chip = self.chip_class(length, OPEN)
+        return "O 0"
+
+    def show_field(self, request):
+        # "`F 108` | the wiring": "0 folded, 1 open"
+        wirings_alone(request)
+        return "F 108 %X" % self.chip.wiring
+
+    def put_field(self, request, value):
+        # "`J 108 v` | the wiring becomes v (0 or 1); the memory stays, of
+        # whatever length"
+        wirings_alone(request)
+        self.chip.wiring = number(value, 1)
+        return "J 0"
 
     def set_word(self, place, value):
         place = number(place, len(self.chip.memory) - 1)
@@ -127,7 +158,7 @@ class Bench:
         return "L %X" % self.chip.post_pen(number(address, LARGEST))
 
     def run(self, budget):
-        return "U 0 %X %X" % self.chip.run(number(budget, LARGEST))
+        return "U %X %X %X" % self.chip.run_call(number(budget, LARGEST))
 
     def registers(self):
         # "D ead mask pitch dc d d2 d1 dm figs gd op zoom pram sync cchar
@@ -194,8 +225,7 @@ class Bench:
         except Refused as refused:
             return "X %X %X %X 0" % refused.answer
         if self.may_be_held_to_the_geometry():
-            painted = list(self.chip.memory)
-            paint(painted, self.picture, self.glyphs, figures)
+            painted = self.painted(figures)
             units = self.send_all(entries)
             assert self.chip.memory == painted, "controller and geometry differ"
             self.chip.memory = painted
@@ -204,13 +234,28 @@ class Bench:
         return "X 0 %X 0 %X" % (len(entries), units)
 
     def may_be_held_to_the_geometry(self):
-        # Write mode, buffer empty, nothing being drawn, and the picture fits.
+        # Write mode, buffer empty, nothing being drawn, no run refused, and
+        # the picture fits. Open wiring loses what does not fit, no more.
         chip = self.chip
         return (chip.mode == WRITE_MODE and not chip.buffer and chip.figure is None
-                and self.picture.words * self.picture.lines <= len(chip.memory))
+                and lawful_length(len(chip.memory), chip.wiring)
+                and (chip.wiring == OPEN or self.picture_size_in_words() <= len(chip.memory)))
+
+    def picture_size_in_words(self):
+        return self.picture.words * self.picture.lines
+
+    def painted(self, figures):
+        # The memory as the geometry paints it. "an address past the end meets
+        # nothing": a larger picture is painted whole and cut at the length.
+        length = len(self.chip.memory)
+        memory = self.chip.memory + [0] * (self.picture_size_in_words() - length)
+        paint(memory, self.picture, self.glyphs, figures)
+        return memory[:length]
 
     def send_all(self, entries):
-        # "an entry that is refused is passed over"
+        # "an entry that is refused is passed over". The ports do not look at
+        # the memory's length: where it is wrong the runs alone are refused,
+        # the entries wait, and from the seventeenth on they get 3.
         units = 0
         for entry in entries:
             if entry >= 256:
@@ -221,11 +266,11 @@ class Bench:
         return units
 
     def run_until_idle(self):
-        # A read that awaits room stops the run too.
+        # A read that awaits room stops the run too, and so does refusal 2.
         units = 0
         reason = BUDGET_SPENT
         while reason == BUDGET_SPENT:
-            done, reason = self.chip.run(LARGEST)
+            _, done, reason = self.chip.run_call(LARGEST)
             units += done
         return units
 
@@ -233,6 +278,7 @@ class Bench:
 # For each letter: the fewest and the most fields after it, and what it does.
 OPERATIONS = {
     "M": (1, 1, Bench.new_memory),
+    "O": (1, 1, Bench.new_open_memory),
     "W": (2, 2, Bench.set_word),
     "C": (1, 1, Bench.command_byte),
     "P": (1, 1, Bench.parameter_byte),
@@ -249,6 +295,8 @@ OPERATIONS = {
     "B": (1, 1, Bench.add_to_sheet),
     "T": (1, 1, Bench.translation),
     "X": (0, 0, Bench.draw_sheet),
+    "F": (1, 1, Bench.show_field),
+    "J": (2, 2, Bench.put_field),
 }
 
 

@@ -1,26 +1,29 @@
 """The controller: the uPD7220 as document 01 describes it.
 
 This is a part of the SECOND PROGRAM. It was written from the paper alone
-(document 01, request M-100 of document 02, NEC's sheet 002, the readings) and
-never from the proved program, so that the two can be held against each other.
-It is plain and slow on purpose. Above or in each function stands the sentence
-of the paper that it puts into Python; names are 01's words.
+(document 01, requests M-100 and M-108 of document 02, NEC's sheet 002, the
+readings) and never from the proved program, so that the two can be held
+against each other. It is plain and slow on purpose. Above or in each function
+stands the sentence of the paper that it puts into Python; names are 01's
+words.
 
 A `Chip` holds the register set and the display memory. The host uses
 `command_port`, `parameter_port`, `read_byte`, `status` and `post_pen`;
-`run` does the units.
+`run_call` judges the memory's length, and `run` does the units.
 """
 
 from commands import HIGH_BYTE, LOW_BYTE, NAMES, WORD, transfer_type, with_high_byte, with_low_byte
 from figures import Figures
 from reads import READ_MODE, WRITE_MODE, Reads
 from steps import logic_unit, whole_word_move
+from wiring import FOLDED, Wiring, lawful_length
 
 FOURTEEN_BITS = 0x3FFF       # "DC, D, D2, D1, DM 14 bits."
 BUFFER_SIZE = 16             # "the 16-entry buffer"
 
-# The numbers of refusal that a port can give.
+# The numbers of refusal that a port or a run can give.
 ACCEPTED = 0
+WRONG_LENGTH = 2             # "memory length wrong"
 BUFFER_FULL = 3              # "write mode and buffer holds 16, RESET excepted"
 PARAMETER_IN_READ_MODE = 4   # "parameter byte in read mode"
 NO_BYTE = 5                  # "read with no byte to give"
@@ -32,18 +35,14 @@ NOTHING_TO_DO = 2
 READ_AWAITS_ROOM = 3
 
 
-def lawful_length(length):
-    # "its length is a power of two, 16 to 262,144."
-    return length in [2 ** power for power in range(4, 19)]
-
-
 # ---------------------------------------------------------------- the chip
 
-class Chip(Figures, Reads):
+class Chip(Figures, Reads, Wiring):
 
-    def __init__(self, length):
+    def __init__(self, length, wiring=FOLDED):
         self.memory = [0] * length
         self.fresh()
+        self.wiring = wiring
 
     def fresh(self):
         # "Fresh: all zero, write mode, except D = D2 = 8, D1 = DM = -1."
@@ -61,6 +60,7 @@ class Chip(Figures, Reads):
         self.half_word = None     # the low byte of a half-sent WDAT word
         self.figure = None
         self.read = None
+        self.wiring = FOLDED      # 0: no port changes it, RESET keeps it
         self.fresh_figure_numbers()
 
     def fresh_figure_numbers(self):
@@ -147,6 +147,13 @@ class Chip(Figures, Reads):
 
     # ------------------------------------------------------------- units
 
+    def run_call(self, budget):
+        # "Refusals: 2 depends on the wiring": at each call, on the wiring as
+        # it stands. A refused run does no unit and has no reason: both are 0.
+        if not lawful_length(len(self.memory), self.wiring):
+            return WRONG_LENGTH, 0, 0
+        return (ACCEPTED, *self.run(budget))
+
     def run(self, budget):
         # "A run does units until its 32-bit budget is spent, nothing is in
         # progress or, in write mode, queued, or a read awaits room; it says
@@ -196,10 +203,10 @@ class Chip(Figures, Reads):
             self.take_parameter(byte)
 
     def memory_cycle(self, pattern):
-        # "the word met is EAD modulo the length."
-        memory = self.memory
-        place = self.ead % len(memory)
-        memory[place] = logic_unit(memory[place], self.mask, pattern, self.operation)
+        # One cycle reads the word met, combines and writes it. "Every access
+        # follows this" (M-108): wiring.py has which word is met.
+        word = self.word_met()
+        self.write_word(logic_unit(word, self.mask, pattern, self.operation))
 
     # ---------------------------------------------------------- commands
 

@@ -38,8 +38,9 @@ class Reads:
             self.read = Read(transfer_type(byte), self.dc)
 
     def read_item(self):
-        # "one item of the read in progress"; word: "low byte first".
-        word = self.memory[self.ead % len(self.memory)]
+        # "one item of the read in progress"; word: "low byte first". "Every
+        # access follows this" (M-108): past the end it is FFFF.
+        word = self.word_met()
         if self.read.transfer != HIGH_BYTE:
             self.buffer.append(word & 0xFF)
         if self.read.transfer != LOW_BYTE:

@@ -14,7 +14,7 @@ from plane import border_dots, circle_dots, dots, glyph_dots, line_dots
 from sheet import CIRCLE, DOT, GLYPH, LINE, RECTANGLE, Figure, Picture, block_sum, translate
 from steps import logic_unit, step, whole_word_move
 
-ACCEPTANCES = ("M 0", "W 0", "C 0", "P 0", "L 0")
+ACCEPTANCES = ("M 0", "O 0", "W 0", "C 0", "P 0", "L 0", "J 0")
 
 checks = 0
 wrong = 0
@@ -452,6 +452,101 @@ def check_demand_3_by_hand():
           "V 3E0 C18 0 2002 2002 4001 4001 4001 4001 4001 2002 2002 0 C18 3E0 0")
 
 
+def check_wirings():
+    # The lengths: O takes any from 16 to 262,144, M the powers of two alone.
+    for line, answer in (("O F", "O 2"), ("O 10", "O 0"), ("O 11", "O 0"), ("O 6000", "O 0"), ("O 3FFFF", "O 0"),
+                         ("O 40000", "O 0"), ("O 40001", "O 2"), ("O 0", "O 2"), ("O FFFFFFFF", "O 2"),
+                         ("M 11", "M 2"), ("M 6000", "M 2"), ("M 3FFFF", "M 2"), ("M 40000", "M 0")):
+        check("length: " + line, Bench().answer(line), answer)
+    # Refused: all stays as it was. The fresh set is folded, M is, O is open.
+    talk("which wiring", "F 108; O 18; F 108; O F; M 18; F 108; V 17 1; C 0; F 108; M 10; F 108; J 108 1; F 108; J 108 0; F 108",
+         "F 108 0; F 108 1; O 2; M 2; F 108 1; V 0; F 108 1; F 108 0; F 108 1; F 108 0")
+    for line in ("F", "F 107", "F 1080", "F 0108", "F 108 0", "F 10", "J 108", "J 108 2", "J 108 0 0", "J 107 0", "J 0108 1",
+                 "J 108 a", "O", "O 10 10", "O g", "O 1a", "O 100000000", "f 108", "o 10", "j 108 0"):
+        check("line %r" % line, Bench().answer(line), "?")
+
+
+# 24,576 words, mask FFFF, DIR right, pitch 0; word 0 is 0F0F, the last 1234.
+ODD_BOARD = "O 6000; W 0 F0F; W 5FFF 1234; C 4C; P 2; P 3; P 0; C 49; P %X; P %X; P %X; C 4A; P FF; P FF; U 20; "
+
+
+def check_open_words():
+    # Three words from 5FFE on: 0000, 1234, and FFFF at the length itself. The
+    # bytes alike. EAD is two, three words past the end afterwards.
+    talk("RDAT over the end", ODD_BOARD % (0xFE, 0x5F, 0) + "C A0; U 20; R; R; R; R; R; R; R",
+         "U 0 B 2; U 0 4 2; R 0 0; R 0 0; R 0 34; R 0 12; R 0 FF; R 0 FF; R 5 0")
+    talk("low bytes over the end", ODD_BOARD % (0xFF, 0x5F, 0) + "C B0; U 20; R; R; R", "U 0 B 2; U 0 4 2; R 0 34; R 0 FF; R 0 FF")
+    talk("high bytes over the end", ODD_BOARD % (0xFF, 0x5F, 0) + "C B8; U 20; R; R; R", "U 0 B 2; U 0 4 2; R 0 12; R 0 FF; R 0 FF")
+    # Each operation, two sets: one past the end, one two words past it. Five
+    # units (the command and four bytes), EAD moves on, nothing lands.
+    for operation in range(4):
+        talk("WDAT past the end, operation %d" % operation,
+             ODD_BOARD % (0, 0x60, 0) + "C %X; P 0; P FF; P FF; P 0; U 20; V 5FFE 2; V 0 2; C E0; U 9; R; R; R" % (0x20 + operation),
+             "U 0 B 2; U 0 5 2; V 0 1234; V F0F 0; U 0 1 2; R 0 2; R 0 60; R 0 0")
+    # The last word itself: COMPLEMENT of 1234 with FFFF is EDCB. The second
+    # set is past the end.
+    talk("the last word", ODD_BOARD % (0xFF, 0x5F, 0) + "C 21; P FF; P FF; P FF; P FF; U 20; V 5FFE 2; V 0 1",
+         "U 0 B 2; U 0 5 2; V 0 EDCB; V F0F")
+    # EAD wraps at 262,144 and not at the length: from 3FFFF to word 0.
+    talk("the wrap to word 0", ODD_BOARD % (0xFF, 0xFF, 3) + "C 21; P FF; P FF; P FF; P FF; U 20; V 0 2; V 5FFF 1",
+         "U 0 B 2; U 0 5 2; V F0F0 0; V 1234")
+    # Folded wiring of the same address: 3FFFF is the last of 16,384 words.
+    talk("folded as ever", "M 4000; W 3FFF 1234; C 4C; P 2; P 1; P 0; C 49; P FF; P FF; P 3; U 20; C A0; U 20; R; R",
+         "U 0 8 2; U 0 2 2; R 0 34; R 0 12")
+
+
+def check_open_figures():
+    # Three dots down from word 22, pitch 1, of 24 words: words 22, 23, and one
+    # past the end. FIGD's unit and three more.
+    start = "O 18; C 23; C 47; P 1; C 78; P FF; P FF; C 49; P %X; P %X; P %X; U 20; C 4C; P %X; P 2; P 0; "
+    talk("dots down over the end", start % (0x16, 0, 0x30, 0) + "C 6C; U 5; S; U 2; S; U 1; S; V 14 4; V 0 2",
+         "U 0 A 2; U 0 5 1; S C; U 0 2 1; S C; U 0 1 1; S 4; V 0 0 8 8; V 0 0")
+    # Three dots up from word 25: two past the end, then the last word.
+    talk("dots up over the end", start % (0x19, 0, 0x30, 4) + "C 6C; U 5; U 3; U 1; V 14 4; V 0 2",
+         "U 0 A 2; U 0 5 1; U 0 3 1; U 0 0 2; V 0 0 0 8; V 0 0")
+    # Right from 3FFFF, dot 15: that dot is lost, the next two lie in word 0.
+    talk("dots right over 262,143", start % (0xFF, 0xFF, 0xF3, 2) + "C 6C; U 100; V 0 2; V 16 2", "U 0 A 2; U 0 8 2; V 3 0; V 0 0")
+    # Up from word 1: words 1 and 0, then 3FFFF, which is past the end.
+    talk("dots up below 0", start % (1, 0, 0, 4) + "C 6C; U 100; V 0 2; V 16 2; C E0; U 1; R; R; R",
+         "U 0 A 2; U 0 8 2; V 1 1; V 0 0; U 0 1 1; R 0 FF; R 0 FF; R 0 3")
+    # 262,144 words fitted: 3FFFF is the last of them.
+    talk("nothing past the end", "O 40000; C 23; C 78; P FF; P FF; C 49; P FF; P FF; P F3; C 4C; P 2; P 1; P 0; C 6C; U 100; "
+         "V 3FFFF 1; V 0 1", "U 0 F 2; V 8000; V 1")
+
+
+def check_wiring_at_each_call():
+    # 24 words are no length for folded wiring: each run is refused, whatever
+    # its budget, and the rest is not. Put open again it goes on where it was.
+    talk("folded and odd", "O 18; J 108 0; U 0; C 6B; U FFFFFFFF; S; D; J 108 1; U 1; U 5",
+         "U 2 0 0; U 2 0 0; S 0; D 0 0 0 0 8 8 3FFF 3FFF 0 0 0 0 %s 0000000000000000 000000 0 0 0 0 0 1; U 0 1 1; U 0 0 2" % ("00" * 16))
+    # 32 words are for both, and each cycle asks the wiring as it stands: of
+    # four dots down from word 31 the second is lost, the third folds to word
+    # 1, the fourth is lost.
+    talk("put in a figure", "O 20; C 23; C 47; P 1; C 78; P FF; P FF; C 49; P 1F; P 0; P 0; U 20; C 4C; P 0; P 3; P 0; C 6C; U 7; "
+         "J 108 0; U 1; J 108 1; U 5; V 0 4; V 1F 1", "U 0 A 2; U 0 7 1; U 0 1 1; U 0 1 2; V 0 1 0 0; V 1")
+
+
+def check_sheets_on_odd_boards():
+    # One word by 17 lines in 17 words: dot (3, 16) is bit 3 of the last word.
+    # By 18 lines: dot (3, 17) is lost, and costs as much.
+    for lines, record, view in ((17, "01030300100000000000", "V 0 8"), (18, "01030300110000000000", "V 0 0")):
+        bench = Bench()
+        bench.answer("O 11")
+        bench.picture, bench.sheet = Picture(1, lines), block(0, 1, 1, [record])
+        check("dot in line %d of 17 words" % lines, [bench.answer(line) for line in ("X", "V F 2", "F 108")],
+              ["X 0 D 0 E", view, "F 108 1"])
+    # Folded, 17 words: the runs are refused, the entries wait. Of the 24 of
+    # two dots sixteen are held: PITCH to the first FIGD, then WDAT, CURS and
+    # its first byte. Open again they are taken, and the first dot drawn.
+    bench = Bench()
+    bench.answer("O 11")
+    bench.answer("J 108 0")
+    bench.picture, bench.sheet = Picture(1, 17), block(0, 2, 1, ["01030300100000000000", "01030400090000000000"])
+    check("X with its runs refused", [bench.answer(line) for line in ("X", "S", "V 10 1", "P 1", "J 108 1", "U 100", "V 10 1", "V 9 1")],
+          ["X 0 18 0 0", "S 2", "V 0", "P 3", "J 0", "U 0 11 2", "V 8", "V 0"])
+    check("EAD after it", bench.answer("D").split(" ")[1:3], ["9", "8"])
+
+
 def main():
     check_logic_unit()
     check_steps()
@@ -472,6 +567,11 @@ def main():
     check_refusals()
     check_language()
     check_demand_3_by_hand()
+    check_wirings()
+    check_open_words()
+    check_open_figures()
+    check_wiring_at_each_call()
+    check_sheets_on_odd_boards()
     print("%d checks, %d wrong" % (checks, wrong))
     return 1 if wrong else 0
 

@@ -1,6 +1,6 @@
 """The controller against the geometry, on many random sheets.
 
-    python3 against_plane.py --sheets N --seed S
+    python3 against_plane.py --sheets N --seed S [--open]
     python3 against_plane.py --radii --seed S
 
 Each sheet, with circles among its figures, is translated and drawn by the
@@ -9,7 +9,8 @@ nothing being drawn), and the memory is held against what plane.py paints. The
 first difference stops the program with the `assert` in bench.py. It tries the
 second program against itself and has no part in comparing it with the proved
 program. With --radii each sheet is one circle: every radius that a lawful
-picture holds, 1 to 1,023.
+picture holds, 1 to 1,023. With --open the wiring is open and the length any
+from 16 on: the picture's own, some words more, or less than the picture has.
 """
 
 import argparse
@@ -26,6 +27,7 @@ from bench import Bench              # noqa: E402
 from building import block_body, number_bytes, record, with_check  # noqa: E402
 from chip import Chip                # noqa: E402
 from generate import Generator       # noqa: E402
+from wiring import FOLDED, OPEN      # noqa: E402
 
 
 class Maker(Generator):
@@ -54,7 +56,14 @@ def random_registers(chip, chances):
         chip.half_word = chances.randrange(256)
 
 
-def one_sheet(maker, bench):
+def open_length(maker):
+    # Of a board for the picture: as many words, some more, some lacking.
+    size = maker.words * maker.height
+    more = maker.pick([0, 0, 0, 0, 1, maker.below(100), -1, -maker.below(100), -maker.below(size)])
+    return max(16, min(size + more, 0x40000))
+
+
+def one_sheet(maker, bench, wiring):
     maker.lines = []
     maker.length = maker.random.choices(LENGTHS, LENGTH_WEIGHTS)[0]
     words = maker.below(min(255, maker.length)) + 1
@@ -65,7 +74,9 @@ def one_sheet(maker, bench):
     maker.choose_glyphs(maker.pick([1, 2, 3, 256]) if maker.chance(0.3) else 2)
     bodies, needed = maker.random_blocks()
     maker.emit_sheet(b"".join(with_check(body) for body in bodies))
-    bench.chip = Chip(maker.length)
+    if wiring == OPEN:
+        maker.length = open_length(maker)
+    bench.chip = Chip(maker.length, wiring)
     bench.chip.memory = [maker.random.getrandbits(16) for _ in range(maker.length)]
     random_registers(bench.chip, maker.random)
     for line in maker.lines:
@@ -98,13 +109,14 @@ def main():
     parser.add_argument("--sheets", type=int, default=1000)
     parser.add_argument("--seed", type=int, default=1)
     parser.add_argument("--radii", action="store_true")
+    parser.add_argument("--open", action="store_true", help="open wiring, any length")
     wanted = parser.parse_args()
     maker, bench = Maker(random.Random(wanted.seed)), Bench()
     start = time.time()
     if wanted.radii:
         drawn = [one_radius(maker, bench, r) for r in range(1, 1024)]
     else:
-        drawn = [one_sheet(maker, bench) for _ in range(wanted.sheets)]
+        drawn = [one_sheet(maker, bench, OPEN if wanted.open else FOLDED) for _ in range(wanted.sheets)]
     print("%d sheets with %d circles, %d units, no difference, %.0f s" % (
         len(drawn), sum(circles for _, circles in drawn), sum(units for units, _ in drawn), time.time() - start))
 

@@ -10,11 +10,14 @@ sys.path.insert(0, os.path.join(HERE, os.pardir, "second"))
 import figures as figures_module     # noqa: E402
 from chip import Chip                # noqa: E402
 from commands import NAMES           # noqa: E402
+from counted_wirings import (  # noqa: E402
+    count_crossing, count_meeting, count_move, count_run_call, count_transfer, over_the_end, where_met)
 from figures import signed, wrapped  # noqa: E402
 from reads import READ_MODE, WRITE_MODE  # noqa: E402
 from rows import (  # noqa: E402
     DIRECTIONS, MASK_KINDS, MOST_PARAMETERS, MOVES, OPERATION_NAMES, PLACES, TRANSFERS, WHENS, class_of_command, reached,
     wide_marks)
+from wiring import OPEN              # noqa: E402
 
 
 class CountingChip(Chip):
@@ -36,6 +39,8 @@ class CountingChip(Chip):
 
     def count_reset(self, held, mode):
         reached("command RESET")
+        if self.wiring == OPEN:
+            self.count_open_reset(held, mode)
         if held == 16 and mode == WRITE_MODE:
             reached("RESET with a full buffer")
         if mode == READ_MODE:
@@ -48,6 +53,15 @@ class CountingChip(Chip):
             self.count_stop("RESET")
         if self.read is not None:
             reached("RDAT %s ended by RESET" % TRANSFERS[self.read.transfer])
+
+    def count_open_reset(self, held, mode):
+        reached("RESET under open wiring")
+        if self.figure is not None:
+            reached("RESET under open wiring, in a figure")
+        if mode == READ_MODE:
+            reached("RESET under open wiring, in read mode")
+        elif held == 16:
+            reached("RESET under open wiring, with a full buffer")
 
     def count_stop(self, what):
         # Where an arc stands when it is stopped.
@@ -84,6 +98,11 @@ class CountingChip(Chip):
         reached("pen posted" if answer == 0 else "refusal 6")
         if answer == 0 and was_set:
             reached("pen replaced")
+        return answer
+
+    def run_call(self, budget):
+        answer = Chip.run_call(self, budget)
+        count_run_call(self, budget, answer[0])
         return answer
 
     def run(self, budget):
@@ -165,23 +184,29 @@ class CountingChip(Chip):
     def write_set(self, pattern):
         reached("WDAT %s %s" % (TRANSFERS[self.command >> 3 & 3], OPERATION_NAMES[self.operation]))
         reached("WDAT moves " + DIRECTIONS[self.figs & 7])
+        before = self.ead
+        count_transfer(self, "WDAT", self.command >> 3 & 3)
         Chip.write_set(self, pattern)
+        count_move(self, "WDAT", before)
 
     def read_item(self):
         transfer, held = self.read.transfer, len(self.buffer)
         reached("RDAT %s along %s" % (TRANSFERS[transfer], DIRECTIONS[self.figs & 7]))
-        if self.ead >= len(self.memory):
+        if self.ead >= len(self.memory) and self.wiring != OPEN:
             reached("RDAT folded")
+        before = self.ead
+        count_transfer(self, "RDAT", transfer)
         if transfer != 0 and held == 15:
             reached("RDAT %s goes on at 15" % TRANSFERS[transfer])
         Chip.read_item(self)
+        count_move(self, "RDAT", before)
         if self.read is None:
             reached("RDAT %s completed" % TRANSFERS[transfer])
 
     def memory_cycle(self, pattern):
         figure = self.figure
         many[count_cycle, figure and figure.kind, figure and figure.direction, self.operation, pattern & 1,
-             MASKS.get(bin(self.mask).count("1"), MASK_KINDS[3]), self.ead >= len(self.memory)] += 1
+             MASKS.get(bin(self.mask).count("1"), MASK_KINDS[3]), where_met(self), self.ead >= len(self.memory)] += 1
         if figure is not None and self.mask in DOTS:
             place = 0 if figure.place == 0 else 2 if figure.place == figure.dots - 1 else 1
             many[count_dot, place, DOTS[self.mask]] += 1
@@ -238,6 +263,9 @@ class CountingChip(Chip):
         Chip.figure_step(self, figure)
         if figure.kind == "arc":
             self.count_arc(figure, *before)
+        if self.wiring == OPEN and figure.kind != "character":
+            over = over_the_end(before[3], self.ead, len(self.memory))
+            many[count_crossing, last_step[0], over, abs(self.ead - before[3]) > 0x20000] += 1
 
     def count_line(self, figure):
         d = signed(figure.d)
@@ -255,7 +283,6 @@ class CountingChip(Chip):
              d1 - 2 != wrapped(d1 - 2), negative and d2 - 2 != wrapped(d2 - 2)] += 1
 
 
-
 def where_in_arc(figure):
     if figure.place > 0:
         return "between dots"
@@ -265,14 +292,18 @@ def where_in_arc(figure):
 # What is counted at every dot is kept by its values first: the rows' names are worked out once for all alike.
 
 many = Counter()
+last_step = [0]              # the direction of the step made last
 MASKS = {0: MASK_KINDS[0], 1: MASK_KINDS[1], 16: MASK_KINDS[2]}
 DOTS = {1 << dot: dot for dot in range(16)}
 
 
-def count_cycle(times, kind, direction, operation, bit, mask, folded):
+def count_cycle(times, kind, direction, operation, bit, mask, where, past):
     reached("cycle with mask " + mask, times)
     reached("cycle by " + OPERATION_NAMES[operation], times)
-    reached("cycle folded" if folded else "cycle not folded", times)
+    if where is None:
+        reached("cycle folded" if past else "cycle not folded", times)
+    else:
+        count_meeting(where, kind, operation, mask, times)
     if kind is not None:
         reached("%s along %s" % (kind, DIRECTIONS[direction]), times)
         reached("%s by %s" % (kind, OPERATION_NAMES[operation]), times)
@@ -299,6 +330,7 @@ def count_dot(times, place, dot):
 def counting_step(ead, mask, direction, pitch):
     # Stands in for the step of figures.py while counting.
     after, new_mask = plain_step(ead, mask, direction, pitch)
+    last_step[0] = direction
     many[count_step, direction, mask & 0x8000 != 0, mask & 1, pitch == 0, (after > ead) - (after < ead)] += 1
     return after, new_mask
 

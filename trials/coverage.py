@@ -15,11 +15,13 @@ sys.path.insert(0, os.path.join(HERE, os.pardir, "second"))
 
 from bench import OPERATIONS, Bench  # noqa: E402
 from reads import READ_MODE          # noqa: E402
+from counted_wirings import count_malformed_field, count_new_memory, count_put, count_x_of_wirings  # noqa: E402
 from counting import CountingChip, settle  # noqa: E402
 from plane import how_far_out        # noqa: E402
 from rows import OPERATION_NAMES, SIDES, counts, reached, rows  # noqa: E402
 from sheet import (BLOCK_SIZE, CIRCLE, GLYPH, LINE, RECTANGLE, Refused, cut_into_blocks, decode,  # noqa: E402
                    has_a_dot_outside, largest_i, read_sheet, record_of, smallest_fitting_direction)
+from wiring import OPEN              # noqa: E402
 
 KIND_NAMES = ["", "dot", "line", "rectangle", "glyph", "circle"]
 
@@ -29,14 +31,22 @@ class CountingBench(Bench):
     def count_line(self, line):
         if line[:1] == "X" and len(line) == 1:
             self.count_start_of_x()
+        wiring = self.chip.wiring
         answer = self.answer(line)
-        letter = line.split(" ")[0]
+        letter, *fields = line.split(" ")
         if answer == "?":
             self.count_malformed(line, letter)
+            count_malformed_field(letter, fields)
             return
         reached("line " + letter)
         if letter == "M":
             reached("refusal 2" if answer == "M 2" else "memory of %d words" % len(self.chip.memory))
+        if letter in ("M", "O"):
+            count_new_memory(letter, fields[0], answer, wiring, len(self.chip.memory))
+        if letter == "J":
+            count_put(self.chip, wiring)
+        if letter == "F":
+            reached("F 108 gives %d" % wiring)
         if letter in ("T", "X"):
             self.count_sheet(letter, line, [int(field, 16) for field in answer.split(" ")[1:4]])
 
@@ -56,6 +66,7 @@ class CountingBench(Bench):
         except Refused:
             return
         chip = self.chip
+        count_x_of_wirings(self)
         if self.may_be_held_to_the_geometry():
             reached("X held to the geometry")
             if any(figure.kind == CIRCLE for figure in figures):
@@ -64,7 +75,7 @@ class CountingBench(Bench):
                 reached("X with a half-sent word")
             if bin(chip.mask).count("1") != 1:
                 reached("X with a mask not one-hot")
-        if self.picture.words * self.picture.lines > len(chip.memory):
+        if self.picture_size_in_words() > len(chip.memory) and chip.wiring != OPEN:
             reached("X of a picture that does not fit")
         if chip.mode == READ_MODE:
             reached("X in read mode")

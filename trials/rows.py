@@ -29,6 +29,12 @@ WHENS = ["on passed-over dots", "between dots", "in FIGD's unit"]
 MOVES = ["axis", "diagonal"]
 SIDES = ["left", "right", "top", "bottom"]
 
+# Where an address meets an open memory; in which state a run is refused or the
+# wiring put.
+WHERES = ["inside", "in the last word", "at the length itself", "further past the end"]
+STATES = ["with nothing to do", "with entries waiting", "in a read", "in a figure"]
+WIRING_NAMES = ["folded", "open"]
+
 # Dots of a character by which a program with narrower numbers is told.
 PAST_WIDTH = "on past its row's dots modulo 65,536"
 PAST_ROWS = "on past its rows modulo 65,536"
@@ -88,7 +94,7 @@ def rows():
         if row not in table:
             table.append(row)
     table += rows_of_parameters() + rows_of_figures() + rows_of_steps()
-    table += rows_of_reads() + rows_of_ports() + rows_of_sheets() + rows_of_language()
+    table += rows_of_reads() + rows_of_ports() + rows_of_sheets() + rows_of_wirings() + rows_of_language()
     return table
 
 
@@ -219,6 +225,41 @@ def rows_of_circles():
     table += ["sheet: " + what for what in ("800 circles", "circles beside other kinds", "over 65,535 entries in exact room",
                                             "over 65,535 entries, one too few")]
     table += ["X of circles held to the geometry"]
+    return table
+
+
+def rows_of_wirings():
+    transfers = [TRANSFERS[t] for t in TRANSFERS]
+    table = ["open: %s %s" % (kind, where) for kind in KINDS for where in WHERES]
+    table += ["open: cycle by %s %s" % (operation, where) for operation in OPERATION_NAMES
+              for where in ("in the last word", "past the end")]
+    table += ["open: cycle past the end with mask " + mask for mask in MASK_KINDS]
+    table += ["open: %s %s %s" % (name, t, where) for name in ("WDAT", "RDAT") for t in transfers for where in WHERES]
+    table += ["open: WDAT %s by %s past the end" % (t, operation) for t in transfers for operation in OPERATION_NAMES]
+    table += ["open: %s moves %s over the end" % (name, way) for name in ("WDAT", "RDAT") for way in ("out", "in")]
+    table += ["open: step %s %s over the end" % (direction, way) for direction in DIRECTIONS for way in ("out", "in")]
+    table += ["open: step wraps " + what for what in ("and meets as before", "out over the end", "to a word inside")]
+    table += ["refusal 2: a run " + what for what in STATES + ["with budget 0"]]
+    table += ["wiring put %s %s" % (wiring, state) for wiring in WIRING_NAMES for state in STATES]
+    table += ["wiring put as it stands, " + wiring for wiring in WIRING_NAMES]
+    table += ["wiring put %s on a length that it %s" % what for what in (("folded", "refuses"), ("folded", "takes"), ("open", "takes"))]
+    table += ["RESET under open wiring" + what for what in ("", ", in a figure", ", in read mode", ", with a full buffer")]
+    table += ["%s %s under %s wiring" % (letter, what, wiring) for letter in "MO" for what in ("taken", "refused")
+              for wiring in WIRING_NAMES]
+    table += ["M refuses a length of open wiring"] + ["O refuses " + what for what in ("15", "262,145", "less", "more")]
+    table += ["open memory of %s words" % size for size in ("16", "17", "24,576", "262,143", "262,144")]
+    table += ["open memory of a power of two", "open memory of another length", "F 108 gives 0", "F 108 gives 1"]
+    return table + rows_of_wired_sheets()
+
+
+def rows_of_wired_sheets():
+    odd = ("", " of odd length")
+    table = ["X with its runs refused"]
+    table += ["X with its runs refused, " + what for what in STATES[:2] + STATES[3:] + ["in read mode", "with a full buffer"]]
+    table += ["X of a picture %s an open memory%s" % (what, which)
+              for what in ("that fits exactly", "smaller than", "larger than") for which in odd]
+    table += ["X held to the geometry under open wiring" + which for which in odd]
+    table += ["? for %s %s" % (letter, what) for letter in "FJ" for what in ("108", "of no request or another")]
     return table
 
 

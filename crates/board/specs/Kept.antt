@@ -1,5 +1,6 @@
 -- Demand 1, of the board calls: "A sound set stays sound." Whatever the contracts of `board_run` and `board_send` let stand behind the
--- reference is sound and of the same board, if what stood there before was sound. What the types say comes as premises, as in crate laws, `EveryEntryKeepsSound`.
+-- reference is sound and of the same board, if what stood there before was sound. What the types say comes as premises, as in crate laws,
+-- `EveryEntryKeepsSound`.
 use mathlib.Core.Path.{_≡_}
 use mathlib.Core.Bool.{true}
 use mathlib.Core.List.{List}

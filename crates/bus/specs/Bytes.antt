@@ -68,6 +68,7 @@ withBuffer p b =
       buffer = b;
       progress = p .progress;
       work = p .work;
+      board = p .board;
     }
 
 abbrev pub answerHeld : PlainRegisters → Held → PlainAnswer
@@ -94,6 +95,7 @@ resetPlain p =
       buffer = bufferPlain emptyBuffer;
       progress = record { command = 1; transfer = 0; next = 0; low = 0 };
       work = workPlain Idle;
+      board = p .board;
     }
 
 -- .. in read mode, where all read data is discarded and the read ended
@@ -111,6 +113,7 @@ turnedPlain p e =
       buffer = queuedBuffer (bufferPlain emptyBuffer) e;
       progress = p .progress;
       work = workPlain Idle;
+      board = p .board;
     }
 
 -- .. and in write mode, as any entry

@@ -142,7 +142,8 @@ module _ (cx cy r : ℕ) (pos : 0 < r) (most : r ≤ 2000) (left : r ≤ cx) (to
     pub arc-drawn : Sized p h → (wiring : Wiring) (op : Operation) (mem : List ℕ) → p * h ≤ length mem → (dir : ℕ) → dir < 8
         → (t : ℕ → ℕ) → ((i k : ℕ) → bit (k % 16) (t i) ≡ 1)
         → Drawn p h op (arcOn cx cy r dir) solid mem
-        (cycles wiring op (λ j. t (arcDm dir + j)) (λ j. passed dir p (begins dir) (arcDm dir + j) .cursor) (suc (arcDc r dir) - arcDm dir) mem)
+        (cycles wiring op (λ j. t (arcDm dir + j)) (λ j. passed dir p (begins dir) (arcDm dir + j) .cursor)
+        (suc (arcDc r dir) - arcDm dir) mem)
     arc-drawn sized wiring op mem room dir b t ones =
         rw (passed-walk dir p (begins dir) (arcDm dir))
         (passed-drawn wiring op p h sized mem room (arcDm dir) (arcDc r dir) t (turning dir p (begins dir)) (begins dir .cursor)

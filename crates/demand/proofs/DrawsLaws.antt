@@ -115,7 +115,8 @@ module _ (p h : ℕ) (sized : Sized p h) (s : State) (held : Held p h s) (op : O
   pub figd-law : (figs : List ℕ) (f : Drawing) (i n : ℕ) (on : Shape) → (Waiting base → Acts base figs (drawingSet base f i))
       → suc n ≡ dotsOf f → n < 65536
       → ((t : ℕ → ℕ) → ((j k : ℕ) → bit (k % 16) (t j) ≡ 1)
-      → Drawn p h op on solid (s .mem) (cycles (s .regs .board .wiring) op t (walk (stepAt f) p (cursorAt (address p (a .x) (a .y)))) (suc n) (s .mem)))
+      → Drawn p h op on solid (s .mem) (cycles (s .regs .board .wiring) op t (walk (stepAt f) p (cursorAt (address p (a .x) (a .y))))
+      (suc n) (s .mem)))
       → Draws p h op on solid s (headEntries p a ++ figs ++ 0x16C ∷ []) (suc n)
   figd-law figs f i n on sets all few geometry =
       record {

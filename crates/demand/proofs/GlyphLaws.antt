@@ -97,7 +97,8 @@ module _ (p h : ℕ) (sized : Sized p h) (s : State) (held : Held p h s) (op : O
   -- ---- GCHRD's dots, by operation, width, factor, pitch and count
   abbrev made : Operation → ℕ → ℕ → ℕ → ℕ → List ℕ
   made o w k pitch count =
-      cycles (s .regs .board .wiring) o (λ j. characterPattern ram k (j / w) (j % w)) (λ j. spot 2 4 pitch first (j / w) (j % w)) count (s .mem)
+      cycles (s .regs .board .wiring) o (λ j. characterPattern ram k (j / w) (j % w)) (λ j. spot 2 4 pitch first (j / w) (j % w)) count
+      (s .mem)
 
   is-glyph : Drawn p h op (squareOn (a .x) (a .y) g) (glyphInk t n (a .x) (a .y) g) (s .mem) (made op (8 * g) g p (8 * g * (8 * g)))
   unfolding characterPattern

@@ -41,7 +41,8 @@ Bytes table = (j : ℕ) → getD table j 0 < 256
 
 -- Take a sheet, P and H, glyph bytes and an output for which the translator answers 0; a register set that is sound, in write mode, with
 -- its buffer empty and nothing being drawn, whatever else it holds (`Typed` is what its types say); and a memory of a length
--- that is lawful for its wiring (02, M-108) and that the picture fits, whatever it holds. Then the entries that the translator wrote draw the sheet's figures.
+-- that is lawful for its wiring (02, M-108) and that the picture fits, whatever it holds. Then the entries that the translator wrote draw
+-- the sheet's figures.
 abbrev pub PictureIsRight : Type 0
 PictureIsRight =
     (sheet : List ℕ) (p h : ℕ) (table out written : List ℕ) (a : Answer)

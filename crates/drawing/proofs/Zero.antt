@@ -55,7 +55,8 @@ module _ (sheet : List ℕ) (p h : ℕ) (glyphs : List ℕ) (r : Registers) (ent
       (outcome (refusal 2 0 0 r) entries mem))
       (outcome (refusal 1 0 0 r) entries mem)
 
-  granted-by : (s l k : Bool) → soundB r ≡ s → lengthB (r .board .wiring) (length mem) ≡ l → largerB p h (length mem) ≡ k → by s l k .drawn .number ≡ 0
+  granted-by : (s l k : Bool) → soundB r ≡ s → lengthB (r .board .wiring) (length mem) ≡ l → largerB p h (length mem) ≡ k
+      → by s l k .drawn .number ≡ 0
       → Granted
   granted-by false l k e f g z = let w : _≡_ {A = ℕ} 1 0 = z in absurd (omega arith)
   granted-by true false k e f g z = let w : _≡_ {A = ℕ} 2 0 = z in absurd (omega arith)

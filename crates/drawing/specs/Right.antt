@@ -50,7 +50,8 @@ pub record Right (p h : ℕ) (glyphs : List ℕ) (figures : List Record) (r : Re
 
 -- Take what `draw_sheet` answers, as its contract says it: for a sheet, P and H, glyph bytes and room for the entries that the translator
 -- accepts; any sound register set, whatever waits in it or is in progress (`Typed` and `Words` are what the types say); and a memory of
--- a length that is lawful for its wiring and that the picture fits, whatever it holds. Then the picture is drawn over what the earlier work leaves.
+-- a length that is lawful for its wiring and that the picture fits, whatever it holds. Then the picture is drawn over what the earlier work
+-- leaves.
 abbrev pub SheetIsDrawn : Type 0
 SheetIsDrawn =
     (sheet : List ℕ) (p h : ℕ) (glyphs : List ℕ) (r : Registers) (entries mem : List ℕ) (q : Drawn) (out drawn : List ℕ)

@@ -2,7 +2,6 @@
 -- is 0 stops before its first unit, and one that is refused alters nothing.
 use mathlib.Core.Path.{_≡_, refl}
 use mathlib.Core.Bool.{Bool, true, false}
-use lib.ListN.{length}
 use Rattle.registers.specs.Sound.{soundB}
 use Rattle.registers.specs.State.{State}
 use Rattle.units.specs.Run.{fittedB, runFrom, runBy, runDone}

@@ -16,7 +16,8 @@ unfolding factorOf
 factor-some zoom e = omega (arith, e)
 
 module _ (i : ℕ) (t : Transfer) (r : Registers) (m : List ℕ) where
-  pub item-done : {w : ℕ} {q : Registers} → roomB t (r .buffer) ≡ true → w ≡ metBy (r .board .wiring) (r .cursor .ead) m → q ≡ itemGiven i t w r
+  pub item-done : {w : ℕ} {q : Registers} → roomB t (r .buffer) ≡ true → w ≡ metBy (r .board .wiring) (r .cursor .ead) m
+      → q ≡ itemGiven i t w r
       → state q m ≡ readUnit i t (state r m)
   unfolding readUnit
   item-done h e f = rw (h, f, e)

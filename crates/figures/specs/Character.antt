@@ -35,4 +35,5 @@ characterMoved row column start r =
 unfoldable pub characterUnit : ℕ → ℕ → Cursor → State → State
 characterUnit row column start s =
     state (characterMoved row column start (s .regs))
-    (cycled (s .regs .board .wiring) (s .regs .op) (characterPattern (s .regs .ram) (factorOf (s .regs .video .zoom)) row column) (s .regs .cursor) (s .mem))
+    (cycled (s .regs .board .wiring) (s .regs .op) (characterPattern (s .regs .ram) (factorOf (s .regs .video .zoom)) row column)
+    (s .regs .cursor) (s .mem))

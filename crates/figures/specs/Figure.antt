@@ -65,4 +65,5 @@ figureMoved k d r =
 -- "one cycle of the figure in progress"
 unfoldable pub figureUnit : ℕ → ℕ → State → State
 figureUnit k d s =
-    state (figureMoved k d (s .regs)) (cycled (s .regs .board .wiring) (s .regs .op) (patternAt (s .regs .ram) k) (s .regs .cursor) (s .mem))
+    state (figureMoved k d (s .regs)) (cycled (s .regs .board .wiring) (s .regs .op) (patternAt (s .regs .ram) k) (s .regs .cursor)
+    (s .mem))

@@ -42,4 +42,5 @@ itemGiven i t w r =
 -- "one item of the read in progress if its one or two bytes fit"
 unfoldable pub readUnit : ℕ → Transfer → State → State
 readUnit i t s =
-    cond (roomB t (s .regs .buffer)) (state (itemGiven i t (metBy (s .regs .board .wiring) (s .regs .cursor .ead) (s .mem)) (s .regs)) (s .mem)) s
+    cond (roomB t (s .regs .buffer)) (state (itemGiven i t (metBy (s .regs .board .wiring) (s .regs .cursor .ead) (s .mem)) (s .regs))
+    (s .mem)) s

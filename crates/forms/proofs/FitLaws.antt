@@ -42,7 +42,7 @@ module _ (p : PlainRegisters) where
       ap (λ (x : Bool). plainFormB p && x)
       (and-assoc (n && heldB) (placeB (drawingOf (p .drawing)) (p .video .zoom) (workOf (p .work)))
       (workB (modeOf (p .mode)) (workOf (p .work))))
-      ∙ ordered (bitsB p && ltb (p .op) 4 && ltb (p .mode) 2) commandB (workFormB (p .work)) n heldB
+      ∙ ordered (bitsB p && ltb (p .op) 4 && ltb (p .mode) 2 && ltb (p .board .wiring) 2) commandB (workFormB (p .work)) n heldB
       (placedB (drawingOf (p .drawing)) (p .video .zoom) (modeOf (p .mode)) (workOf (p .work)))
 
   -- the four tests, each with what it found

@@ -12,7 +12,7 @@ use Rattle.registers.specs.declared.Drawing.{Drawing}
 use Rattle.registers.specs.Sound.{cursorB, drawingB, placeB, workB}
 use Rattle.plain.specs.declared.PlainRegisters.{PlainRegisters}
 use Rattle.plain.specs.declared.PlainWork.{PlainWork}
-use Rattle.plain.specs.Numbers.{operations, modes, transfers, transferOf}
+use Rattle.plain.specs.Numbers.{operations, modes, wirings, transfers, transferOf}
 use Rattle.plain.specs.Parts.{cursorOf, drawingOf}
 use Rattle.plain.specs.Form.{noFigureB, noArcB, noCharacterB, noReadingB, bitsB}
 
@@ -43,6 +43,6 @@ arcB w f zoom m =
 -- every number that stands for itself, a bit or an enum's case is within its width
 abbrev pub numbersB : PlainRegisters → Bool
 numbersB p =
-    (bitsB p && ltb (p .op) operations && ltb (p .mode) modes)
+    (bitsB p && ltb (p .op) operations && ltb (p .mode) modes && ltb (p .board .wiring) wirings)
     && (cursorB (cursorOf (p .cursor)) && drawingB (drawingOf (p .drawing)) && ltb (p .pen .address) addresses
     && leb (p .progress .next) parameters)

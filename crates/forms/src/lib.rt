@@ -75,7 +75,8 @@ pub fn formed(p: PlainRegisters) -> bool
     let bits = bits_formed(p);
     let command = command_formed(p.progress.command, p.progress.transfer);
     let work = work_formed(p.work);
-    bits & (p.op < numbers::OPERATIONS) & (p.mode < numbers::MODES) & command & work
+    let wiring = p.board.wiring < numbers::WIRINGS;
+    bits & (p.op < numbers::OPERATIONS) & (p.mode < numbers::MODES) & wiring & command & work
 }
 
 // What is in progress is inside its figure or read, and of its mode.
@@ -161,7 +162,10 @@ fn work_fits(w: PlainWork, f: Drawing, zoom: u8, m: Mode) -> bool
 fn numbers_fit(p: PlainRegisters) -> bool
     ensures { λ t. ⌜ t ≡ numbersB p ⌝ }
 {
-    let formed = bits_formed(p) & (p.op < numbers::OPERATIONS) & (p.mode < numbers::MODES);
+    let formed = bits_formed(p)
+        & (p.op < numbers::OPERATIONS)
+        & (p.mode < numbers::MODES)
+        & (p.board.wiring < numbers::WIRINGS);
     let cursor = registers::cursor_fits(parts::cursor_of(p.cursor));
     let drawing = registers::drawing_fits(parts::drawing_of(p.drawing));
     let sound = cursor

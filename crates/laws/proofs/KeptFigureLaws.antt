@@ -4,7 +4,6 @@ use mathlib.Core.Path.{_≡_}
 use Prim.Native.Nat.{ℕ, _+_, _/_, _%_, _<_}
 use native.Mathlib.Omega.{arith}
 use lib.Dec.{eqb, ltb}
-use lib.ListN.{length}
 use borrow.Author.Tests.{ltb-true}
 use Rattle.dots.specs.declared.Cursor.{Cursor}
 use Rattle.dots.specs.Step.{Fits, stepOf, wordMoveOf}
@@ -97,7 +96,8 @@ pub character-kept : {board : Board} (n row column : ℕ) (start : Cursor) (s : 
     → s .regs .work ≡ Character row column start → Whole board n (characterUnit row column start s)
 unfolding characterUnit
 character-kept n row column start s w e =
-    cycle-kept n (s .regs .board .wiring) (s .regs .op) (characterPattern (s .regs .ram) (factorOf (s .regs .video .zoom)) row column) (s .regs)
+    cycle-kept n (s .regs .board .wiring) (s .regs .op) (characterPattern (s .regs .ram) (factorOf (s .regs .video .zoom)) row column)
+    (s .regs)
     (characterMoved row column start (s .regs)) (s .mem) w (character-moves (s .regs) (w .regs) row column start e)
 
 -- ---- a read

@@ -73,4 +73,5 @@ module _ {board : Board} (r : Registers) (l : SoundSet board r) where
   unfolding penPosted
   pen-posted-kept a =
       either (Answers board) (soundB r)
-      (cases (Answers board) (leb addresses a) (λ t. l) (λ t. pen-kept r l (record { address = a; set = true }) (leb-false addresses a t))) l
+      (cases (Answers board) (leb addresses a) (λ t. l)
+      (λ t. pen-kept r l (record { address = a; set = true }) (leb-false addresses a t))) l

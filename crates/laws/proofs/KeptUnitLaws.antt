@@ -1,10 +1,10 @@
--- A unit keeps a sound register set sound, with what its types say, of its board, and the memory's words and length; so do any number of units,
+-- A unit keeps a sound register set sound, with what its types say, of its board, and the memory's words and length; so do any number of
+-- units,
 -- and a run with any budget. A unit is one of those that were shown to keep it.
 use mathlib.Core.Path.{_≡_, refl}
 use mathlib.Core.Bool.{Bool, true, false}
 use Prim.Native.Nat.{ℕ, zero, suc, _+_}
 use lib.Dec.{eqb}
-use lib.ListN.{length}
 use Rattle.registers.specs.declared.Board.{Board}
 use Rattle.registers.specs.declared.Mode.{Mode}
 use Rattle.registers.specs.declared.Mode.the-variants.{Write, Read}

@@ -5,7 +5,6 @@ use mathlib.Core.Bool.{Bool, true, false, cond}
 use Prim.Native.Nat.{ℕ, zero, suc, _+_, _≤_, _<_}
 use native.Mathlib.Omega.{arith}
 use lib.Dec.{eqb}
-use lib.ListN.{length}
 use borrow.Author.Tests.{eqb-true, eqb-false, ne-eqb}
 use Rattle.registers.specs.declared.Board.{Board}
 use Rattle.registers.specs.declared.Mode.{Mode}
@@ -18,7 +17,8 @@ use Rattle.registers.specs.Sound.{soundB}
 use Rattle.registers.specs.State.{State}
 use Rattle.figures.specs.Reading.{roomB, readUnit}
 use Rattle.units.specs.Unit.{fetchBy, unitBy, unitDone}
-use Rattle.units.specs.Run.{waiting, reasonBy, reasonOf, unitsDone, Outcome, outcome, stopped, runFrom, lengthB, fittedB, runRefused, runBy, runDone}
+use Rattle.units.specs.Run.{waiting, reasonBy, reasonOf, unitsDone, Outcome, outcome, stopped, runFrom, lengthB, fittedB, runRefused, runBy}
+use Rattle.units.specs.Run.{runDone}
 use Rattle.laws.proofs.BranchLaws.{either, cases}
 use Rattle.laws.proofs.KeptLaws.{Whole, lawful-sound}
 use Rattle.laws.proofs.KeptUnitLaws.{leftBy, run-from-kept}

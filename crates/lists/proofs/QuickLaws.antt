@@ -95,7 +95,8 @@ module _ (r : Registers) (e : ℕ) (now : atOnceB (r .mode) (r .work) (r .buffer
 
 -- ---- one entry, through its port or at once
 module _ (board : Board) (n : ℕ) (right : lengthB (board .wiring) n ≡ true) where
-  one-part : (s : State) → Whole board n s → (e : ℕ) (l : List ℕ) → sent s e .port .number ≡ 0 → Part board n s (e ∷ l) (listTaken s (e ∷ []))
+  one-part : (s : State) → Whole board n s → (e : ℕ) (l : List ℕ) → sent s e .port .number ≡ 0
+      → Part board n s (e ∷ l) (listTaken s (e ∷ []))
   unfolding sent
   one-part s w e l z =
       subst (Part board n s (e ∷ l)) (sym (alone-taken s e z))
@@ -153,7 +154,8 @@ module _ (board : Board) (n : ℕ) (right : lengthB (board .wiring) n ≡ true) 
           ap₂ (λ (a b : ℕ). wentOn a b (with p m) l) f g;
     }
 
-    module _ (p : Settings) (m : List ℕ) (w : Whole board n (with p m)) (e : ℕ) (l : List ℕ) (t : settableB (p .progress .command) e ≡ true) where
+    module _ (p : Settings) (m : List ℕ) (w : Whole board n (with p m)) (e : ℕ) (l : List ℕ)
+        (t : settableB (p .progress .command) e ≡ true) where
       abbrev next : Taken
       next = settingTaken e p m
 
@@ -238,7 +240,8 @@ module _ (board : Board) (n : ℕ) (right : lengthB (board .wiring) n ≡ true) 
     pub set-some : 0 < setAt e (e ∷ l) s .count → Part board n s (e ∷ l) (setBy r (setAt e (e ∷ l) s))
     unfolding setAt
     set-some =
-        cases (λ (q : Settlement). 0 < q .count → Part board n s (e ∷ l) (setBy r q)) nowB (λ t. settled-part t) (λ t h. absurd (omega arith))
+        cases (λ (q : Settlement). 0 < q .count → Part board n s (e ∷ l) (setBy r q)) nowB (λ t. settled-part t)
+        (λ t h. absurd (omega arith))
 
     pub set-none : setAt e (e ∷ l) s .count ≡ 0 → setAt e (e ∷ l) s .mem ≡ s .mem
     unfolding setAt
@@ -295,10 +298,12 @@ pub record Going (board : Board) (n : ℕ) (entries : List ℕ) (s₀ s : State)
   pub whole : Whole board n s
   pub rest : listTaken s₀ entries ≡ wentOn k u s (drop k entries)
 
-pub units-fit : {board : Board} {n : ℕ} {entries : List ℕ} {s₀ s : State} {u k : ℕ} → Going board n entries s₀ s u k → u ≤ 4294967295 * 4294967295
+pub units-fit : {board : Board} {n : ℕ} {entries : List ℕ} {s₀ s : State} {u k : ℕ} → Going board n entries s₀ s u k
+    → u ≤ 4294967295 * 4294967295
 units-fit g = omega (arith, g .few, g .within, g .short)
 
-module _ {board : Board} {n : ℕ} {entries : List ℕ} {s₀ s : State} {u k : ℕ} (g : Going board n entries s₀ s u k) (more : k < length entries) where
+module _ {board : Board} {n : ℕ} {entries : List ℕ} {s₀ s : State} {u k : ℕ} (g : Going board n entries s₀ s u k)
+    (more : k < length entries) where
   abbrev e : ℕ
   e = getD entries k 0
 

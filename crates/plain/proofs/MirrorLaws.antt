@@ -9,12 +9,13 @@ use Rattle.dots.proofs.OperationLaws.{operation-below, operation-back, operatio
 use Rattle.registers.specs.declared.Registers.{Registers}
 use Rattle.registers.proofs.BoolLaws.{and-left, and-right}
 use Rattle.plain.specs.declared.PlainRegisters.{PlainRegisters}
+use Rattle.plain.specs.Numbers.{wirings}
 use Rattle.plain.specs.Form.{commandFormB, workFormB, bitsB, plainFormB}
 use Rattle.plain.specs.Mirror.{fromPlain, toPlain}
-use Rattle.plain.proofs.NumberLaws.{bit-fits, mode-back, mode-fits, mode-there}
+use Rattle.plain.proofs.NumberLaws.{bit-fits, mode-back, mode-fits, mode-there, wiring-fits}
 use Rattle.plain.proofs.NumberLaws.{command-fits}
 use Rattle.plain.proofs.PartLaws.{drawing-back, drawing-there, video-back, video-there, pen-back, pen-there, progress-back}
-use Rattle.plain.proofs.PartLaws.{progress-there, work-back, work-fits, work-there}
+use Rattle.plain.proofs.PartLaws.{progress-there, work-back, work-fits, work-there, board-back, board-there}
 
 -- the plain numbers of a register set give the set back
 pub from-to : (r : Registers) → fromPlain (toPlain r) ≡ r
@@ -32,6 +33,7 @@ from-to r = λ i.
       buffer = r .buffer;
       progress = progress-back (r .progress) i;
       work = work-back (r .work) i;
+      board = board-back (r .board) i;
     }
 
 -- .. and are formed
@@ -45,6 +47,7 @@ formed-to r =
       bit-fits (r .pen .set),
       lt-ltb (operationNumber (r .op)) 4 (operation-below (r .op)),
       mode-fits (r .mode),
+      wiring-fits (r .board .wiring),
       command-fits (r .progress .command),
       work-fits (r .work),
     )
@@ -56,10 +59,12 @@ to-from p s =
     let a = bitsB p in
     let b = ltb (p .op) 4 in
     let c = ltb (p .mode) 2 in
+    let w = ltb (p .board .wiring) wirings in
     let d = commandFormB (p .progress .command) (p .progress .transfer) in
     let e = workFormB (p .work) in
-    let s₃ = and-left (a && b && c && d) e s in
-    let s₂ = and-left (a && b && c) d s₃ in
+    let s₄ = and-left (a && b && c && w && d) e s in
+    let s₃ = and-left (a && b && c && w) d s₄ in
+    let s₂ = and-left (a && b && c) w s₃ in
     let s₁ = and-left (a && b) c s₂ in
     let gd = ltb (p .drawing .gd) 2 in
     let display = ltb (p .video .display) 2 in
@@ -79,6 +84,7 @@ to-from p s =
       pen = pen-there (p .pen) (and-right (gd && display && vsync) set t₃) i;
       mode = mode-there (p .mode) (and-right (a && b) c s₂) i;
       buffer = p .buffer;
-      progress = progress-there (p .progress) (and-right (a && b && c) d s₃) i;
-      work = work-there (p .work) (and-right (a && b && c && d) e s) i;
+      progress = progress-there (p .progress) (and-right (a && b && c && w) d s₄) i;
+      work = work-there (p .work) (and-right (a && b && c && w && d) e s) i;
+      board = board-there (p .board) (and-right (a && b && c) w s₃) i;
     }

@@ -9,6 +9,8 @@ use borrow.Author.Tests.{ltb-true, ltb-false, eqb-true, eqb-false, ne-eqb}
 use lib.Dec.{ltb, eqb}
 use types.Run.{OneOf, miss}
 use denote.Enum.Declared.{tagOf}
+use Rattle.dots.specs.declared.Wiring.{Wiring}
+use Rattle.dots.specs.declared.Wiring.the-variants as wiring
 use Rattle.registers.specs.declared.Mode.{Mode}
 use Rattle.registers.specs.declared.Mode.the-variants as mode
 use Rattle.registers.specs.declared.Transfer.{Transfer}
@@ -18,7 +20,7 @@ use Rattle.registers.specs.declared.Command.the-variants.{Nothing, Reset, Vsync
 use Rattle.registers.specs.declared.Command.the-variants.{Gchrd, Curd, Lprd, Wdat, Rdat, Unknown}
 use Rattle.registers.proofs.Command as C
 use Rattle.registers.proofs.BoolLaws.{false-true}
-use Rattle.plain.specs.Numbers.{bitOf, bitNumber, modeOf, modeNumber, transferOf, transferNumber}
+use Rattle.plain.specs.Numbers.{wirings, bitOf, bitNumber, modeOf, modeNumber, wiringOf, wiringNumber, transferOf, transferNumber}
 use Rattle.plain.specs.Numbers.{commandOf, commandNumber, commandTransfer}
 use Rattle.plain.specs.Form.{commandFormB}
 
@@ -55,6 +57,10 @@ pub mode-back : (m : Mode) → modeOf (modeNumber m) ≡ m
 mode-back mode.Write = refl
 mode-back mode.Read = refl
 
+pub wiring-back : (w : Wiring) → wiringOf (wiringNumber w) ≡ w
+wiring-back wiring.Folded = refl
+wiring-back wiring.Open = refl
+
 pub transfer-back : (t : Transfer) → transferOf (transferNumber t) ≡ t
 transfer-back transfer.Word = refl
 transfer-back transfer.Low = refl
@@ -88,6 +94,10 @@ bit-fits false = refl
 pub mode-fits : (m : Mode) → ltb (modeNumber m) 2 ≡ true
 mode-fits mode.Write = refl
 mode-fits mode.Read = refl
+
+pub wiring-fits : (w : Wiring) → ltb (wiringNumber w) wirings ≡ true
+wiring-fits wiring.Folded = refl
+wiring-fits wiring.Open = refl
 
 pub transfer-fits : (t : Transfer) → ltb (transferNumber t) 3 ≡ true
 transfer-fits transfer.Word = refl
@@ -133,6 +143,9 @@ bit-there n e = each (λ k. bitNumber (bitOf k) ≡ k) 2 ((tt, refl), refl) n (l
 
 pub mode-there : (n : ℕ) → ltb n 2 ≡ true → modeNumber (modeOf n) ≡ n
 mode-there n e = each (λ k. modeNumber (modeOf k) ≡ k) 2 ((tt, refl), refl) n (ltb-true n 2 e)
+
+pub wiring-there : (n : ℕ) → ltb n wirings ≡ true → wiringNumber (wiringOf n) ≡ n
+wiring-there n e = each (λ k. wiringNumber (wiringOf k) ≡ k) 2 ((tt, refl), refl) n (ltb-true n 2 e)
 
 pub transfer-there : (n : ℕ) → ltb n 3 ≡ true → transferNumber (transferOf n) ≡ n
 transfer-there n e = each (λ k. transferNumber (transferOf k) ≡ k) 3 (((tt, refl), refl), refl) n (ltb-true n 3 e)

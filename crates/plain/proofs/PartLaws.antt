@@ -10,6 +10,7 @@ use Rattle.registers.specs.declared.Drawing.{Drawing}
 use Rattle.registers.specs.declared.Video.{Video}
 use Rattle.registers.specs.declared.Pen.{Pen}
 use Rattle.registers.specs.declared.Progress.{Progress}
+use Rattle.registers.specs.declared.Board.{Board}
 use Rattle.registers.specs.declared.Work.{Work}
 use Rattle.registers.specs.declared.Work.the-variants.{Idle, Figure, Arc, Character, Reading}
 use Rattle.registers.proofs.BoolLaws.{and-left, and-right, false-true}
@@ -17,12 +18,14 @@ use Rattle.plain.specs.declared.PlainDrawing.{PlainDrawing}
 use Rattle.plain.specs.declared.PlainVideo.{PlainVideo}
 use Rattle.plain.specs.declared.PlainPen.{PlainPen}
 use Rattle.plain.specs.declared.PlainProgress.{PlainProgress}
+use Rattle.plain.specs.declared.PlainBoard.{PlainBoard}
 use Rattle.plain.specs.declared.PlainWork.{PlainWork}
+use Rattle.plain.specs.Numbers.{wirings}
 use Rattle.plain.specs.Parts.{drawingOf, drawingPlain, videoOf, videoPlain, penOf, penPlain, progressOf, progressPlain, workOf}
-use Rattle.plain.specs.Parts.{workPlain}
+use Rattle.plain.specs.Parts.{workPlain, boardOf, boardPlain}
 use Rattle.plain.specs.Form.{commandFormB, noFigureB, noArcB, noCharacterB, noReadingB, workFormB}
 use Rattle.plain.proofs.NumberLaws.{bit-back, bit-there, transfer-back, transfer-fits, transfer-there, command-back, command-there}
-use Rattle.plain.proofs.NumberLaws.{transfer-beside}
+use Rattle.plain.proofs.NumberLaws.{transfer-beside, wiring-back, wiring-there}
 
 -- ---- a part, its plain numbers, the part
 pub drawing-back : (f : Drawing) → drawingOf (drawingPlain f) ≡ f
@@ -38,6 +41,9 @@ pen-back p = λ i. record { address = p .address; set = bit-back (p .set) i }
 
 pub progress-back : (p : Progress) → progressOf (progressPlain p) ≡ p
 progress-back p = λ i. record { command = command-back (p .command) i; next = p .next; low = p .low }
+
+pub board-back : (b : Board) → boardOf (boardPlain b) ≡ b
+board-back b = λ i. record { wiring = wiring-back (b .wiring) i }
 
 pub work-back : (w : Work) → workOf (workPlain w) ≡ w
 work-back Idle = refl
@@ -74,6 +80,9 @@ progress-there p e = λ i.
       next = p .next;
       low = p .low;
     }
+
+pub board-there : (p : PlainBoard) → ltb (p .wiring) wirings ≡ true → boardPlain (boardOf p) ≡ p
+board-there p e = λ i. record { wiring = wiring-there (p .wiring) e i }
 
 -- ---- what is in progress: the fields that a kind has no use for are 0
 no-figure : (w : PlainWork) → noFigureB w ≡ true → (w .dot ≡ 0) × (w .d ≡ 0)

@@ -5,7 +5,7 @@ use mathlib.Core.Bool.{Bool, true, false, cond, _&&_, _||_}
 use lib.Dec.{eqb, ltb}
 use Rattle.plain.specs.declared.PlainWork.{PlainWork}
 use Rattle.plain.specs.declared.PlainRegisters.{PlainRegisters}
-use Rattle.plain.specs.Numbers.{operations, modes, transfers, commands, wdatNumber, rdatNumber}
+use Rattle.plain.specs.Numbers.{operations, modes, wirings, transfers, commands, wdatNumber, rdatNumber}
 
 -- WDAT and RDAT have one of the transfers beside them, any other command 0
 abbrev pub commandFormB : ℕ → ℕ → Bool
@@ -38,5 +38,5 @@ bitsB p = ltb (p .drawing .gd) 2 && ltb (p .video .display) 2 && ltb (p .video .
 
 unfoldable pub plainFormB : PlainRegisters → Bool
 plainFormB p =
-    bitsB p && ltb (p .op) operations && ltb (p .mode) modes && commandFormB (p .progress .command) (p .progress .transfer) && workFormB
-    (p .work)
+    bitsB p && ltb (p .op) operations && ltb (p .mode) modes && ltb (p .board .wiring) wirings
+    && commandFormB (p .progress .command) (p .progress .transfer) && workFormB (p .work)

@@ -4,7 +4,7 @@ use Rattle.plain.specs.declared.PlainRegisters.{PlainRegisters}
 use Rattle.dots.specs.Operation.{operationOf, operationNumber}
 use Rattle.plain.specs.Numbers.{modeOf, modeNumber}
 use Rattle.plain.specs.Parts.{cursorOf, cursorPlain, drawingOf, drawingPlain, videoOf, videoPlain, penOf, penPlain, bufferOf}
-use Rattle.plain.specs.Parts.{bufferPlain, progressOf, progressPlain, workOf, workPlain}
+use Rattle.plain.specs.Parts.{bufferPlain, progressOf, progressPlain, workOf, workPlain, boardOf, boardPlain}
 
 unfoldable pub fromPlain : PlainRegisters → Registers
 fromPlain p =
@@ -20,6 +20,7 @@ fromPlain p =
       buffer = bufferOf (p .buffer);
       progress = progressOf (p .progress);
       work = workOf (p .work);
+      board = boardOf (p .board);
     }
 
 unfoldable pub toPlain : Registers → PlainRegisters
@@ -36,4 +37,5 @@ toPlain r =
       buffer = bufferPlain (r .buffer);
       progress = progressPlain (r .progress);
       work = workPlain (r .work);
+      board = boardPlain (r .board);
     }

@@ -2,6 +2,8 @@
 use Prim.Native.Nat.{ℕ}
 use mathlib.Core.Bool.{Bool, true, false, cond}
 use lib.Dec.{eqb}
+use Rattle.dots.specs.declared.Wiring.{Wiring}
+use Rattle.dots.specs.declared.Wiring.the-variants as wiring
 use Rattle.registers.specs.declared.Mode.{Mode}
 use Rattle.registers.specs.declared.Mode.the-variants as mode
 use Rattle.registers.specs.declared.Transfer.{Transfer}
@@ -10,12 +12,15 @@ use Rattle.registers.specs.declared.Command.{Command}
 use Rattle.registers.specs.declared.Command.the-variants.{Nothing, Reset, Vsync, Cchar, Start, Zoom, Curs, Pram, Pitch, Mask, Figs, Figd}
 use Rattle.registers.specs.declared.Command.the-variants.{Gchrd, Curd, Lprd, Wdat, Rdat, Unknown}
 
--- how many operations, modes, transfers and commands there are, so that each one's number is below
+-- how many operations, modes, wirings, transfers and commands there are, so that each one's number is below
 abbrev pub operations : ℕ
 operations = 4
 
 abbrev pub modes : ℕ
 modes = 2
+
+abbrev pub wirings : ℕ
+wirings = 2
 
 abbrev pub transfers : ℕ
 transfers = 3
@@ -43,6 +48,14 @@ modeOf n = cond (eqb n 0) mode.Write mode.Read
 abbrev pub modeNumber : Mode → ℕ
 modeNumber mode.Write = 0
 modeNumber mode.Read = 1
+
+-- 02, M-108: "folded or open wiring"
+abbrev pub wiringOf : ℕ → Wiring
+wiringOf n = cond (eqb n 0) wiring.Folded wiring.Open
+
+abbrev pub wiringNumber : Wiring → ℕ
+wiringNumber wiring.Folded = 0
+wiringNumber wiring.Open = 1
 
 -- a word, its low byte, its high byte
 abbrev pub transferOf : ℕ → Transfer

@@ -6,6 +6,7 @@ use Rattle.dots.specs.declared.Cursor.{Cursor}
 use Rattle.registers.specs.declared.Drawing.{Drawing}
 use Rattle.registers.specs.declared.Video.{Video}
 use Rattle.registers.specs.declared.Pen.{Pen}
+use Rattle.registers.specs.declared.Board.{Board}
 use Rattle.registers.specs.declared.Buffer.{Buffer}
 use Rattle.registers.specs.declared.Progress.{Progress}
 use Rattle.registers.specs.declared.Running.{Running}
@@ -18,7 +19,9 @@ use Rattle.plain.specs.declared.PlainPen.{PlainPen}
 use Rattle.plain.specs.declared.PlainBuffer.{PlainBuffer}
 use Rattle.plain.specs.declared.PlainProgress.{PlainProgress}
 use Rattle.plain.specs.declared.PlainWork.{PlainWork}
-use Rattle.plain.specs.Numbers.{bitOf, bitNumber, transferOf, transferNumber, commandOf, commandNumber, commandTransfer}
+use Rattle.plain.specs.declared.PlainBoard.{PlainBoard}
+use Rattle.plain.specs.Numbers.{bitOf, bitNumber, wiringOf, wiringNumber, transferOf, transferNumber, commandOf, commandNumber}
+use Rattle.plain.specs.Numbers.{commandTransfer}
 
 abbrev pub cursorOf : PlainCursor → Cursor
 cursorOf p = record { ead = p .ead; mask = p .mask }
@@ -96,3 +99,10 @@ workPlain (Arc n a) = noCharacter 4 0 a 0 n
 workPlain (Character r c s) =
     record { kind = 2; transfer = 0; d = 0; d1 = 0; d2 = 0; item = 0; dot = 0; row = r; column = c; start = cursorPlain s }
 workPlain (Reading i t) = noCharacter 3 (transferNumber t) (dOnly 0) i 0
+
+-- what the board is
+abbrev pub boardOf : PlainBoard → Board
+boardOf p = record { wiring = wiringOf (p .wiring) }
+
+abbrev pub boardPlain : Board → PlainBoard
+boardPlain b = record { wiring = wiringNumber (b .wiring) }

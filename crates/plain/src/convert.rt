@@ -19,6 +19,7 @@ pub fn from_plain(p: PlainRegisters) -> Registers
     let buffer = parts::buffer_of(p.buffer);
     let progress = parts::progress_of(p.progress);
     let work = parts::work_of(p.work);
+    let board = parts::board_of(p.board);
     Registers {
         cursor: cursor,
         pitch: p.pitch,
@@ -31,6 +32,7 @@ pub fn from_plain(p: PlainRegisters) -> Registers
         buffer: buffer,
         progress: progress,
         work: work,
+        board: board,
     }
 }
 
@@ -48,6 +50,7 @@ pub fn to_plain(r: Registers) -> PlainRegisters
     let progress = parts::progress_plain(r.progress);
     let work = r.work;
     let plain = parts::work_plain(work);
+    let board = parts::board_plain(r.board);
     PlainRegisters {
         cursor: cursor,
         pitch: r.pitch,
@@ -60,5 +63,6 @@ pub fn to_plain(r: Registers) -> PlainRegisters
         buffer: buffer,
         progress: progress,
         work: plain,
+        board: board,
     }
 }

@@ -68,6 +68,12 @@ pub struct PlainWork {
     pub start: PlainCursor,
 }
 
+// What the board is: its wiring, 0 folded, 1 open.
+#[repr(C)]
+pub struct PlainBoard {
+    pub wiring: u8,
+}
+
 // The register set in plain numbers.
 #[repr(C)]
 pub struct PlainRegisters {
@@ -82,4 +88,5 @@ pub struct PlainRegisters {
     pub buffer: PlainBuffer,
     pub progress: PlainProgress,
     pub work: PlainWork,
+    pub board: PlainBoard,
 }

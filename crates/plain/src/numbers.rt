@@ -1,4 +1,5 @@
 // The numbers that stand for bits and enums.
+use dots::Wiring;
 use registers::Command;
 use registers::Mode;
 use registers::Transfer;
@@ -8,6 +9,8 @@ ghost use Rattle.plain.specs.Numbers.{
   bitNumber,
   modeOf,
   modeNumber,
+  wiringOf,
+  wiringNumber,
   transferOf,
   transferNumber,
   commandOf,
@@ -19,6 +22,8 @@ ghost use Rattle.plain.specs.Numbers.{
 pub const OPERATIONS: u8 = 4;
 
 pub const MODES: u8 = 2;
+
+pub const WIRINGS: u8 = 2;
 
 pub const TRANSFERS: u8 = 3;
 
@@ -59,6 +64,24 @@ pub fn mode_number(m: Mode) -> u8
     match m {
         Mode::Write => 0,
         Mode::Read => 1,
+    }
+}
+
+pub fn wiring_of(n: u8) -> Wiring
+    ensures { λ w. ⌜ w ≡ wiringOf n ⌝ }
+{
+    match n {
+        0 => Wiring::Folded,
+        _ => Wiring::Open,
+    }
+}
+
+pub fn wiring_number(w: Wiring) -> u8
+    ensures { λ n. ⌜ n ≡ wiringNumber w ⌝ }
+{
+    match w {
+        Wiring::Folded => 0,
+        Wiring::Open => 1,
     }
 }
 

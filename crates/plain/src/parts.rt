@@ -1,4 +1,5 @@
 // The parts of a register set from plain numbers, and back.
+use super::PlainBoard;
 use super::PlainBuffer;
 use super::PlainCursor;
 use super::PlainDrawing;
@@ -8,6 +9,7 @@ use super::PlainVideo;
 use super::PlainWork;
 use super::numbers;
 use dots::Cursor;
+use registers::Board;
 use registers::Buffer;
 use registers::Drawing;
 use registers::Pen;
@@ -33,6 +35,8 @@ ghost use Rattle.plain.specs.Parts.{
   noCharacter,
   workOf,
   workPlain,
+  boardOf,
+  boardPlain,
 };
 
 pub fn cursor_of(p: PlainCursor) -> Cursor
@@ -246,5 +250,22 @@ pub fn work_plain(w: Work) -> PlainWork
         Work::Reading { item, transfer } => {
             plain_work(3, numbers::transfer_number(transfer), d_only(0), item, 0)
         }
+    }
+}
+
+pub fn board_of(p: PlainBoard) -> Board
+    ensures { λ q. ⌜ q ≡ boardOf p ⌝ }
+{
+    Board {
+        wiring: numbers::wiring_of(p.wiring),
+    }
+}
+
+pub fn board_plain(b: Board) -> PlainBoard
+    ensures { λ q. ⌜ q ≡ boardPlain b ⌝ }
+{
+    let wiring = b.wiring;
+    PlainBoard {
+        wiring: numbers::wiring_number(wiring),
     }
 }

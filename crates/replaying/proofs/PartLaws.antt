@@ -65,7 +65,8 @@ module _ {board : Board} (n : ℕ) (right : lengthB (board .wiring) n ≡ true) 
   unfolding allDone
   all-kept [] s w = w
   all-kept (e ∷ l) s w =
-      either (λ (o : Outcome). Whole board n (leftAt o)) (eqb (eventDone s e .number) 0) (all-kept l (eventDone s e .left) (event-kept s w e)) w
+      either (λ (o : Outcome). Whole board n (leftAt o)) (eqb (eventDone s e .number) 0)
+      (all-kept l (eventDone s e .left) (event-kept s w e)) w
 
 -- ---- a list that is granted: neither 1 nor 2
 module _ (s : State) (l : List ℕ) where

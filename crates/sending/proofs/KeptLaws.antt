@@ -1,4 +1,5 @@
--- Entries sent, whatever they are, keep a lawful register set lawful, of its board, and the memory's words 16 bits wide: each port and each run
+-- Entries sent, whatever they are, keep a lawful register set lawful, of its board, and the memory's words 16 bits wide: each port and each
+-- run
 -- keeps them, by crate laws.
 use mathlib.Core.List.{List, [], _∷_}
 use Prim.Native.Nat.{ℕ}

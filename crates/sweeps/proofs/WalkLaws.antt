@@ -49,7 +49,8 @@ module _ (b : Brush) (axis diagonal : ℕ) {u v : ℕ} (eu : u ≡ axisOf (b .dr
   places-walk zero i m p l s = ap (λ (w : Moving). swept w l) (stands-for diagonal m p (stride-small sy) s)
   places-walk (suc n) i m p l s =
       places-walk n (i + 1) (onBy b m) (placeOn axis p) _ (stands-on (b .drawing .dir) (b .pitch) axis diagonal eu sx ev sy m p s)
-      ∙ ap (λ (c : Cursor). arcWalk b n (i + 1) (onBy b m) (cycled (b .wiring) (b .op) (patternOf low high i) c l)) (stands-at diagonal m p s)
+      ∙ ap (λ (c : Cursor). arcWalk b n (i + 1) (onBy b m) (cycled (b .wiring) (b .op) (patternOf low high i) c l))
+      (stands-at diagonal m p s)
 
   -- over what the calls of the code ensure
   pub bits-walk : (n i : ℕ) (m : Moving) (a : ℕ) (l t : List ℕ) {p q : Place} {w : Moving} → Stands m a → a < 4194304

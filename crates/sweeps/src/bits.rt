@@ -74,7 +74,15 @@ fn arc_by(
 }
 
 // .. where the pattern is all ones.
-fn arc_solid(mem: &mut [u16], wiring: Wiring, op: Operation, axis: u64, i: u32, from: Place, end: u32) -> Place
+fn arc_solid(
+    mem: &mut [u16],
+    wiring: Wiring,
+    op: Operation,
+    axis: u64,
+    i: u32,
+    from: Place,
+    end: u32,
+) -> Place
     ensures { λ q. ⌜ placed q (now (mem .exit)) ≡ placeWalk wiring op 255 255 axis (end - i) i from (now (mem .entry)) ⌝ }
 {
     match op {

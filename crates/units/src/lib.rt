@@ -135,7 +135,15 @@ fn stops(r: Registers, n: u32, why: u8) -> Ran
 
 // What a figure or a character is drawn with.
 fn brush_of(r: Registers) -> Brush
-    ensures { λ b. ⌜ b ≡ record { wiring = r .board .wiring; op = r .op; ram = r .ram; drawing = r .drawing; zoom = r .video .zoom; pitch = r .pitch } ⌝ }
+    ensures { λ b.
+        ⌜ b ≡ record {
+          wiring = r .board .wiring;
+          op = r .op;
+          ram = r .ram;
+          drawing = r .drawing;
+          zoom = r .video .zoom;
+          pitch = r .pitch;
+        } ⌝ }
 {
     let board = r.board;
     let wiring = board.wiring;

@@ -40,7 +40,8 @@ module _ (w : Wiring) (op : Operation) (low high axis diagonal end : ℕ) where
   line-end i s m h = let j : end - i ≡ zero = omega arith in rw j
 
 module _ (w : Wiring) (op : Operation) (low high step end : ℕ) where
-  pub straight-on : {p : ℕ} {l : List ℕ} (a : ℕ) (m : List ℕ) (i : ℕ) → i < end → p ≡ patternOf low high i → l ≡ cycled w op p (cursorAt a) m
+  pub straight-on : {p : ℕ} {l : List ℕ} (a : ℕ) (m : List ℕ) (i : ℕ) → i < end → p ≡ patternOf low high i
+      → l ≡ cycled w op p (cursorAt a) m
       → straightWalk w op low high step (end - i) i a m ≡ straightWalk w op low high step (end - (i + 1)) (i + 1) ((a + step) % 4194304) l
   unfolding straightWalk
   straight-on a m i h ep el = let j : end - i ≡ suc (end - (i + 1)) = omega arith in rw (j, el, ep)

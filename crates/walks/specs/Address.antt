@@ -63,7 +63,8 @@ walked s m = record { at = s; mem = m }
 unfoldable pub lineWalk : Wiring → Operation → ℕ → ℕ → ℕ → ℕ → ℕ → ℕ → ℕ → List ℕ → Walked
 lineWalk w op low high axis diagonal zero k s m = walked s m
 lineWalk w op low high axis diagonal (suc n) k s m =
-    lineWalk w op low high axis diagonal n (k + 1) (lineStepped axis diagonal s) (cycled w op (patternOf low high k) (cursorAt (s % 4194304)) m)
+    lineWalk w op low high axis diagonal n (k + 1) (lineStepped axis diagonal s)
+    (cycled w op (patternOf low high k) (cursorAt (s % 4194304)) m)
 
 -- n dots along one direction from dot k on, each with the step after it
 unfoldable pub straightWalk : Wiring → Operation → ℕ → ℕ → ℕ → ℕ → ℕ → ℕ → List ℕ → Walked

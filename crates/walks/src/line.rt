@@ -53,7 +53,8 @@ fn line_loop(
     end: u32,
 ) -> u64
     requires { ⌜ (from < 281474976710656) × ((axis < 281474976710656) × (diagonal < 281474976710656)) ⌝ }
-    ensures { λ q. ⌜ walked q (now (mem .exit)) ≡ lineWalk wiring (operationOf kind) low high axis diagonal (end - k) k from (now (mem .entry)) ⌝ }
+    ensures { λ q.
+        ⌜ walked q (now (mem .exit)) ≡ lineWalk wiring (operationOf kind) low high axis diagonal (end - k) k from (now (mem .entry)) ⌝ }
 {
     let masks = dots::MASKS;
     let mut s = from;

@@ -71,7 +71,15 @@ fn straight_by(
 }
 
 // .. where the pattern is all ones.
-fn straight_solid(mem: &mut [u16], wiring: Wiring, op: Operation, step: u32, k: u32, at: u32, end: u32) -> u32
+fn straight_solid(
+    mem: &mut [u16],
+    wiring: Wiring,
+    op: Operation,
+    step: u32,
+    k: u32,
+    at: u32,
+    end: u32,
+) -> u32
     requires { ⌜ (at < 4194304) × (step < 8388608) ⌝ }
     ensures { λ q. ⌜ walked q (now (mem .exit)) ≡ straightWalk wiring op 255 255 step (end - k) k at (now (mem .entry)) ⌝ }
 {

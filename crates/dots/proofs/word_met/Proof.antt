@@ -1,6 +1,5 @@
 -- `word_met`: a word inside the memory is looked for first, since both wirings meet it.
 use mathlib.Core.Path.{sym}
-use native.Mathlib.Omega.{arith}
 use Rattle.dots.proofs.CycleLaws.{met-inside, met-none}
 use borrow.Author.Needs.{needs}
 use Rattle.dots.proofs.word_met.Statement.{statement}

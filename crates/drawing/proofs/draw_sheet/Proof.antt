@@ -24,7 +24,8 @@ refuse-requires-2 c κs = search needs
 
 returns-2 : tie.Need-returns-2
 returns-2 c =
-    way-mislong _ _ _ _ _ _ _ (sym (c .before .before .before .before .before .sound .ensures) ∙ not-false _ (c .before .before .before .before .if1 .left))
+    way-mislong _ _ _ _ _ _ _ (sym (c .before .before .before .before .before .sound .ensures)
+    ∙ not-false _ (c .before .before .before .before .if1 .left))
     (sym (c .before .before .length-right .ensures) ∙ not-true _ (c .before .if2 .taken)) (c .refuse2 .ensures)
 
 larger-requires : tie.Need-larger-requires

@@ -16,9 +16,9 @@ work-formed-requires c κs = search needs
 returns : tie.Need-returns
 unfolding plainFormB
 returns c = rw (
-  c .before .before .work-formed .ensures,
-  c .before .before .before .command-formed .ensures,
-  c .before .before .before .before .bits-formed .ensures,
+  c .before .before .before .work-formed .ensures,
+  c .before .before .before .before .command-formed .ensures,
+  c .before .before .before .before .before .bits-formed .ensures,
 )
 
 pub formed-spec : {M : Type 1} → statement M

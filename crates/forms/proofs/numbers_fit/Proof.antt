@@ -24,7 +24,7 @@ returns c = rw (
   c .before .before .before .drawing-of .ensures,
   c .before .before .before .before .cursor-fits .ensures,
   c .before .before .before .before .before .cursor-of .ensures,
-  c .before .before .before .before .before .before .before .before .bits-formed .ensures,
+  c .before .before .before .before .before .before .before .before .before .bits-formed .ensures,
 )
 
 pub numbers-fit-spec : {M : Type 1} → statement M

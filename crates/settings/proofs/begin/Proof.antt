@@ -26,7 +26,8 @@ operation-of-requires c κs = search needs
 returns : tie.Need-returns
 returns c =
     settled-by _ (c .before .before .before .before .before .before .before .before .args .p)
-    (c .before .before .before .before .before .before .before .command-of .ensures) (c .before .before .before .before .enum-told .given .1)
+    (c .before .before .before .before .before .before .before .command-of .ensures)
+    (c .before .before .before .before .enum-told .given .1)
     (rw (c .before .before .before .refresh .ensures, c .before .before .before .before .before .before .first-of .ensures))
 
 returns-2 : tie.Need-returns-2
@@ -34,7 +35,10 @@ returns-2 c =
     settled-by _ (c .before .before .before .before .before .before .before .before .before .args .p)
     (c .before .before .before .before .before .before .before .before .command-of .ensures)
     (c .before .before .before .before .before .enum-told2 .given .1)
-    (rw (c .before .before .before .before .operation-of .ensures, c .before .before .before .before .before .before .before .first-of .ensures))
+    (rw (
+      c .before .before .before .before .operation-of .ensures,
+      c .before .before .before .before .before .before .before .first-of .ensures,
+    ))
 
 returns-3 : tie.Need-returns-3
 returns-3 c =

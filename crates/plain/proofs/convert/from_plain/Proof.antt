@@ -31,18 +31,22 @@ progress-of-requires c κs = search needs
 work-of-requires : tie.Need-work-of-requires
 work-of-requires c κs = search needs
 
+board-of-requires : tie.Need-board-of-requires
+board-of-requires c κs = search needs
+
 returns : tie.Need-returns
 unfolding fromPlain
 returns c = rw (
-  c .work-of .ensures,
-  c .before .progress-of .ensures,
-  c .before .before .buffer-of .ensures,
-  c .before .before .before .mode-of .ensures,
-  c .before .before .before .before .pen-of .ensures,
-  c .before .before .before .before .before .video-of .ensures,
-  c .before .before .before .before .before .before .before .operation-of .ensures,
-  c .before .before .before .before .before .before .before .before .drawing-of .ensures,
-  c .before .before .before .before .before .before .before .before .before .cursor-of .ensures,
+  c .board-of .ensures,
+  c .before .work-of .ensures,
+  c .before .before .progress-of .ensures,
+  c .before .before .before .buffer-of .ensures,
+  c .before .before .before .before .mode-of .ensures,
+  c .before .before .before .before .before .pen-of .ensures,
+  c .before .before .before .before .before .before .video-of .ensures,
+  c .before .before .before .before .before .before .before .before .operation-of .ensures,
+  c .before .before .before .before .before .before .before .before .before .drawing-of .ensures,
+  c .before .before .before .before .before .before .before .before .before .before .cursor-of .ensures,
 )
 
 pub from-plain-spec : {M : Type 1} → statement M
@@ -58,4 +62,5 @@ from-plain-spec =
     buffer-of-requires
     progress-of-requires
     work-of-requires
+    board-of-requires
     returns)

@@ -25,6 +25,9 @@ progress-plain-requires c κs = search needs
 work-plain-requires : tie.Need-work-plain-requires
 work-plain-requires c κs = search needs
 
+board-plain-requires : tie.Need-board-plain-requires
+board-plain-requires c κs = search needs
+
 operation-number-requires : tie.Need-operation-number-requires
 operation-number-requires c κs = search needs
 
@@ -36,13 +39,14 @@ unfolding toPlain
 returns c = rw (
   c .mode-number .ensures,
   c .before .operation-number .ensures,
-  c .before .before .work-plain .ensures,
-  c .before .before .before .progress-plain .ensures,
-  c .before .before .before .before .buffer-plain .ensures,
-  c .before .before .before .before .before .pen-plain .ensures,
-  c .before .before .before .before .before .before .video-plain .ensures,
-  c .before .before .before .before .before .before .before .before .drawing-plain .ensures,
-  c .before .before .before .before .before .before .before .before .before .cursor-plain .ensures,
+  c .before .before .board-plain .ensures,
+  c .before .before .before .work-plain .ensures,
+  c .before .before .before .before .progress-plain .ensures,
+  c .before .before .before .before .before .buffer-plain .ensures,
+  c .before .before .before .before .before .before .pen-plain .ensures,
+  c .before .before .before .before .before .before .before .video-plain .ensures,
+  c .before .before .before .before .before .before .before .before .before .drawing-plain .ensures,
+  c .before .before .before .before .before .before .before .before .before .before .cursor-plain .ensures,
 )
 
 pub to-plain-spec : {M : Type 1} → statement M
@@ -56,6 +60,7 @@ to-plain-spec =
     buffer-plain-requires
     progress-plain-requires
     work-plain-requires
+    board-plain-requires
     operation-number-requires
     mode-number-requires
     returns)

@@ -65,7 +65,8 @@ loop-again c = let l = c .before .before .before .before .before .before .before
     let o = c .before .before .before .before .operation-of in
     record {
       long = x .kept .0 ∙ l .inv .long;
-      same = l .inv .same ∙ place-goes _ _ _ _ _ _ _ _ _ (c .before .before .before .before .before .before .before .before .loop-test .taken)
+      same = l .inv .same ∙ place-goes _ _ _ _ _ _ _ _ _
+          (c .before .before .before .before .before .before .before .before .loop-test .taken)
           (p .ensures) (cycle-at (c .before .before .before .before .before .before .before .before .before .before .before .args .wiring) _
           (l .p .at % 4194304) (p .result) (l .mem) _ (o .ensures) (x .ensures)) (c .place-on .ensures);
     }

@@ -19,7 +19,8 @@ record Going (mem₀ : List ℕ) (wiring : Wiring) (kind low high axis diagonal 
       ≡ lineWalk wiring (operationOf kind) low high axis diagonal (end - i) i s mem
 
 abbrev Inv-loop : tie.InvT-loop
-Inv-loop mem₀ wiring kind low high axis diagonal k from end masks s₀ i₀ mem s i = Going mem₀ wiring kind low high axis diagonal k end s₀ mem s i
+Inv-loop mem₀ wiring kind low high axis diagonal k from end masks s₀ i₀ mem s i =
+    Going mem₀ wiring kind low high axis diagonal k end s₀ mem s i
 
 abbrev μ-loop : tie.MeasureT-loop
 μ-loop mem₀ wiring kind low high axis diagonal k from end masks s₀ i₀ mem s i = end - i
@@ -66,7 +67,8 @@ loop-again c = let l = c .before .before .before .before .before .before .before
       small = rw (c .line-step .ensures) (stepped-lt _ _ _);
       long = x .kept .0 ∙ l .inv .long;
       same = l .inv .same ∙ line-on _ _ _ _ _ _ _ _ _ _ (c .before .before .before .before .before .before .before .loop-test .taken)
-          (p .ensures) (cycle-at (c .before .before .before .before .before .before .before .before .before .before .args .wiring) _ (l .s % 4194304) (p .result) (l .mem) _ (o .ensures) (x .ensures)) (c .line-step .ensures);
+          (p .ensures) (cycle-at (c .before .before .before .before .before .before .before .before .before .before .args .wiring) _
+          (l .s % 4194304) (p .result) (l .mem) _ (o .ensures) (x .ensures)) (c .line-step .ensures);
     }
 
 same-length : tie.Need-same-length Inv-loop μ-loop

@@ -63,7 +63,8 @@ loop-again c = let l = c .before .before .before .before .before .before .before
       small = omega arith;
       long = x .kept .0 ∙ l .inv .long;
       same = l .inv .same ∙ straight-on _ _ _ _ _ _ _ _ _ (c .before .before .before .before .before .before .loop-test .taken)
-          (p .ensures) (cycle-at (c .before .before .before .before .before .before .before .before .before .args .wiring) _ (l .a) (p .result) (l .mem) _ (o .ensures) (x .ensures));
+          (p .ensures) (cycle-at (c .before .before .before .before .before .before .before .before .before .args .wiring) _ (l .a)
+          (p .result) (l .mem) _ (o .ensures) (x .ensures));
     }
 
 same-length : tie.Need-same-length Inv-loop μ-loop

@@ -25,7 +25,8 @@ returns : tie.Need-returns
 unfolding patternAt
 returns c =
     let a = c .before .before .before .before .before .before .before .args in
-    c .before .before .cycle .ensures ∙ (λ i. cycled (a .b .wiring) (a .b .op) (c .before .before .before .before .pattern-of .ensures i) (a .c)
+    c .before .before .cycle .ensures ∙ (λ i. cycled (a .b .wiring) (a .b .op) (c .before .before .before .before .pattern-of .ensures i)
+    (a .c)
     (a .mem .now))
 
 pub dot-spec : {M : Type 1} → statement M

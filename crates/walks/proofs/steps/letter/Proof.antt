@@ -17,7 +17,8 @@ same-length c = search needs
 returns : tie.Need-returns
 returns c =
     let a = c .before .before .before .before .before .before .before .args in
-    c .before .before .cycle .ensures ∙ (λ i. cycled (a .b .wiring) (a .b .op) (c .before .before .before .before .zoomed-pattern .ensures i) (a .c)
+    c .before .before .cycle .ensures ∙ (λ i. cycled (a .b .wiring) (a .b .op)
+    (c .before .before .before .before .zoomed-pattern .ensures i) (a .c)
     (a .mem .now))
 
 pub letter-spec : {M : Type 1} → statement M
