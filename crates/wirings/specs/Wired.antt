@@ -25,8 +25,8 @@ abbrev pub foldedWord : List ℕ
 foldedWord = 102 ∷ 111 ∷ 108 ∷ 100 ∷ 101 ∷ 100 ∷ []
 
 -- the wiring that a word names
-unfoldable pub wiringOf : List ℕ → Named
-wiringOf s = cond (sameB s openWord) (Is Open) (cond (sameB s foldedWord) (Is Folded) Bad)
+unfoldable pub wiringNamed : List ℕ → Named
+wiringNamed s = cond (sameB s openWord) (Is Open) (cond (sameB s foldedWord) (Is Folded) Bad)
 
 -- the register set of a board that is wired so
 abbrev pub wiredAs : Wiring → Registers → Registers

@@ -3,7 +3,7 @@ use dots::Wiring;
 use registers::Board;
 use registers::Registers;
 ghost use mathlib.Core.Path.{_≡_};
-ghost use Rattle.wirings.specs.Wired.{wiringOf, wiredAs};
+ghost use Rattle.wirings.specs.Wired.{wiringNamed, wiredAs};
 
 // The wiring that a word names, or that it names none.
 pub enum Named {
@@ -12,8 +12,8 @@ pub enum Named {
 }
 
 // The wiring that a word names: `open` or `folded`.
-pub fn wiring_of(text: &[u8]) -> Named
-    ensures { λ r. ⌜ r ≡ wiringOf (now (text .entry)) ⌝ }
+pub fn wiring_named(text: &[u8]) -> Named
+    ensures { λ r. ⌜ r ≡ wiringNamed (now (text .entry)) ⌝ }
 {
     if check::same(text, b"open") {
         return Named::Is(Wiring::Open);
@@ -31,7 +31,7 @@ pub fn wiring_at(i: usize) -> Named {
     }
     let mut text = [0u8; 16];
     let n = os::arg(i, &mut text);
-    wiring_of(&text[..n])
+    wiring_named(&text[..n])
 }
 
 // The register set with that wiring; all else stays.
