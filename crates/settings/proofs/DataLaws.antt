@@ -1,7 +1,7 @@
 -- WDAT's bytes in a loop: after some of them the rest makes what all of them make from the start, but for their number. True because
 -- `dataAll` takes the first entry of a list first, and a byte changes the cursor, the place within the set and its first byte alone.
 use mathlib.Core.Path.{_≡_, sym, ap, _∙_}
-use mathlib.Core.Bool.{true, false}
+use mathlib.Core.Bool.{Bool, true, false}
 use mathlib.Core.List.{List, _∷_}
 use Prim.Native.Nat.{ℕ, suc, _+_, _-_, _%_, _≤_, _<_}
 use native.Mathlib.Nat.{mod-eq-of-lt}
@@ -15,7 +15,7 @@ use Rattle.dots.specs.Cycle.{cycled}
 use Rattle.registers.specs.declared.Transfer.{Transfer}
 use Rattle.registers.specs.declared.Command.{Command}
 use Rattle.registers.specs.declared.Command.the-variants.{Wdat}
-use Rattle.wdat.specs.Wdat.{halfB, wdatPattern, wdatProgress}
+use Rattle.wdat.specs.Wdat.{halfB, bitMappedB, setPattern, wdatProgress}
 use Rattle.settings.specs.declared.Settings.{Settings}
 use Rattle.settings.specs.Put.{setCursor, setProgress}
 use Rattle.settings.specs.Settings.{Settlement, settled, oneMore, dataSet, dataAll}
@@ -76,11 +76,12 @@ module _ (t : Transfer) (p : Settings) where
       unfolding dataAll dataSet
       half-sent h f g k l = rw (here entries at more, lt-ltb e 256 byte, h, f, g, k, l, mod-eq-of-lt byte)
 
-      pub completed : (x : ℕ) → halfB t next ≡ false → x ≡ wdatPattern t low (e % 256) → m′ ≡ cycled (p .board .wiring) (p .op) x c m
+      pub completed : (x : ℕ) {b : Bool} → halfB t next ≡ false → b ≡ bitMappedB (p .video .sync) (p .drawing .gd)
+          → x ≡ setPattern b t low (e % 256) → m′ ≡ cycled (p .board .wiring) (p .op) x c m
           → c′ ≡ wordMoveOf (p .drawing .dir) (p .pitch) c → next′ ≡ 0 → low′ ≡ 0
           → now ≡ oneMore (dataAll t (within t p c′ next′ low′) (drop (at + 1) entries) m′)
       unfolding dataAll dataSet
-      completed x h y f g k l = rw (here entries at more, lt-ltb e 256 byte, h, f, g, k, l, y, mod-eq-of-lt byte)
+      completed x h b y f g k l = rw (here entries at more, lt-ltb e 256 byte, h, f, g, k, l, y, b, mod-eq-of-lt byte)
 
     pub data-ended : length entries ≤ at → now ≡ unmoved (within t p c next low) m
     unfolding dataAll

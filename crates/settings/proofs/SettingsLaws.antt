@@ -37,8 +37,8 @@ settings-of-put r p = refl
 -- .. and the rest is left
 pub put-leaves : (r : Registers) (p : Settings)
     → (putSettings r p .mode ≡ r .mode) × (putSettings r p .buffer ≡ r .buffer) × (putSettings r p .work ≡ r .work)
-    × (putSettings r p .pen ≡ r .pen) × (putZoom (putSettings r p .video) (r .video .zoom) ≡ r .video)
-put-leaves r p = (refl, refl, refl, refl, refl)
+    × (putSettings r p .pen ≡ r .pen)
+put-leaves r p = (refl, refl, refl, refl)
 
 -- ---- which entries they are: below 512, and not RESET
 below-by : (e : ℕ) (a b q s : Bool) → ltb e 256 ≡ a → ltb e 512 ≡ b → cond a q (b && s) ≡ true → e < 512
@@ -99,7 +99,7 @@ module _ (r : Registers) where
     parameter-setting Cchar s = absurd (false-true s)
     parameter-setting Start s = refl
     parameter-setting Zoom s =
-        ap (λ (w : Video). state (putVideo (putSettings r p) w) m) (of-test (putZoom (r .video)) (eqb i 0) v (p .zoom))
+        ap (λ (w : Video). state (putVideo (putSettings r p) w) m) (of-test (putZoom (p .video)) (eqb i 0) v (p .video .zoom))
     parameter-setting Curs s = refl
     parameter-setting Pram s = ap (λ (q : Registers). state q m) (of-test (putRam (putSettings r p)) (ltb i 16) (set (p .ram) i v) (p .ram))
     parameter-setting Pitch s = ap (λ (q : Registers). state q m) (of-test (putPitch (putSettings r p)) (eqb i 0) v (p .pitch))

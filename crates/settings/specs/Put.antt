@@ -5,6 +5,7 @@ use Rattle.dots.specs.declared.Cursor.{Cursor}
 use Rattle.dots.specs.declared.Operation.{Operation}
 use Rattle.registers.specs.declared.Drawing.{Drawing}
 use Rattle.registers.specs.declared.Progress.{Progress}
+use Rattle.registers.specs.Put.{putZoom}
 use Rattle.settings.specs.declared.Settings.{Settings}
 
 abbrev pub setCursor : Settings → Cursor → Settings
@@ -16,7 +17,7 @@ setCursor p x =
       drawing = p .drawing;
       op = p .op;
       ram = p .ram;
-      zoom = p .zoom;
+      video = p .video;
       progress = p .progress;
     }
 
@@ -29,7 +30,7 @@ setPitch p x =
       drawing = p .drawing;
       op = p .op;
       ram = p .ram;
-      zoom = p .zoom;
+      video = p .video;
       progress = p .progress;
     }
 
@@ -42,7 +43,7 @@ setDrawing p x =
       drawing = x;
       op = p .op;
       ram = p .ram;
-      zoom = p .zoom;
+      video = p .video;
       progress = p .progress;
     }
 
@@ -55,7 +56,7 @@ setOp p x =
       drawing = p .drawing;
       op = x;
       ram = p .ram;
-      zoom = p .zoom;
+      video = p .video;
       progress = p .progress;
     }
 
@@ -68,7 +69,7 @@ setRam p x =
       drawing = p .drawing;
       op = p .op;
       ram = x;
-      zoom = p .zoom;
+      video = p .video;
       progress = p .progress;
     }
 
@@ -81,7 +82,7 @@ setZoom p x =
       drawing = p .drawing;
       op = p .op;
       ram = p .ram;
-      zoom = x;
+      video = putZoom (p .video) x;
       progress = p .progress;
     }
 
@@ -94,6 +95,6 @@ setProgress p x =
       drawing = p .drawing;
       op = p .op;
       ram = p .ram;
-      zoom = p .zoom;
+      video = p .video;
       progress = x;
     }

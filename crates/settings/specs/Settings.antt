@@ -14,12 +14,11 @@ use Rattle.registers.specs.declared.Command.the-variants.{Nothing, Reset, Vsync
 use Rattle.registers.specs.declared.Command.the-variants.{Gchrd, Curd, Lprd, Wdat, Rdat, Unknown}
 use Rattle.registers.specs.declared.Registers.{Registers}
 use Rattle.registers.specs.Fresh.{freshDrawing}
-use Rattle.registers.specs.Put.{putZoom}
 use Rattle.registers.specs.Width.{commandMark, entryEnd}
 use Rattle.commands.specs.Decode.{commandOf}
 use Rattle.processor.specs.Command.{begun}
 use Rattle.parameters.specs.Parameter.{cursBy, maskBy, figsBy}
-use Rattle.wdat.specs.Wdat.{halfB, wdatPattern, wdatProgress}
+use Rattle.wdat.specs.Wdat.{halfB, bitMappedB, setPattern, wdatProgress}
 use Rattle.processor.specs.Entry.{counted}
 use Rattle.settings.specs.declared.Settings.{Settings}
 use Rattle.settings.specs.declared.Settled.{Settled}
@@ -60,7 +59,7 @@ putSettings r p =
       drawing = p .drawing;
       op = p .op;
       ram = p .ram;
-      video = putZoom (r .video) (p .zoom);
+      video = p .video;
       pen = r .pen;
       mode = r .mode;
       buffer = r .buffer;
@@ -78,7 +77,7 @@ settingsOf r =
       drawing = r .drawing;
       op = r .op;
       ram = r .ram;
-      zoom = r .video .zoom;
+      video = r .video;
       progress = r .progress;
     }
 
@@ -129,7 +128,7 @@ unfoldable pub dataSet : Transfer → ℕ → ℕ → Settings → List ℕ → 
 dataSet t i v p m =
     cond (halfB t i) (taken (setProgress p (wdatProgress t 1 v)) m)
     (taken (setProgress (setCursor p (wordMoveOf (p .drawing .dir) (p .pitch) (p .cursor))) (wdatProgress t 0 0))
-    (cycled (p .board .wiring) (p .op) (wdatPattern t (p .progress .low) v) (p .cursor) m))
+    (cycled (p .board .wiring) (p .op) (setPattern (bitMappedB (p .video .sync) (p .drawing .gd)) t (p .progress .low) v) (p .cursor) m))
 
 -- the parameter v of a command, i being where it goes
 abbrev pub parameterSet : Command → ℕ → ℕ → Settings → List ℕ → Taken
@@ -138,7 +137,7 @@ parameterSet Reset i v p m = taken p m
 parameterSet Vsync i v p m = taken p m
 parameterSet Cchar i v p m = taken p m
 parameterSet Start i v p m = taken p m
-parameterSet Zoom i v p m = taken (setZoom p (byteSet i v (p .zoom))) m
+parameterSet Zoom i v p m = taken (setZoom p (byteSet i v (p .video .zoom))) m
 parameterSet Curs i v p m = taken (setCursor p (cursBy i v (p .cursor))) m
 parameterSet Pram i v p m = taken (setRam p (ramSet i v (p .ram))) m
 parameterSet Pitch i v p m = taken (setPitch p (byteSet i v (p .pitch))) m

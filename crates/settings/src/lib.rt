@@ -6,6 +6,7 @@ use registers::Command;
 use registers::Drawing;
 use registers::Progress;
 use registers::Transfer;
+use registers::Video;
 ghost use mathlib.Core.Path.{_≡_};
 ghost use Prim.Native.Nat.{_%_};
 ghost use lib.ListN.{drop};
@@ -22,7 +23,7 @@ ghost use Rattle.settings.specs.Settings.{
   settleAll,
 };
 
-// The registers that such entries set, and the board, which they leave.
+// The registers that such entries set (of the video bytes ZOOM's alone), and the board, which they leave.
 pub struct Settings {
     pub board: Board,
     pub cursor: Cursor,
@@ -30,7 +31,7 @@ pub struct Settings {
     pub drawing: Drawing,
     pub op: Operation,
     pub ram: [u8; 16],
-    pub zoom: u8,
+    pub video: Video,
     pub progress: Progress,
 }
 
@@ -95,6 +96,7 @@ fn data_taken(from: Settings, t: Transfer, entries: &[u16], k: usize, mem: &mut 
     let board = from.board;
     let wiring = board.wiring;
     let op = from.op;
+    let mapped = wdat::bit_mapped(from.video, from.drawing.gd);
     let dir = from.drawing.dir;
     let pitch = from.pitch;
     let mut c = from.cursor;
@@ -111,7 +113,7 @@ fn data_taken(from: Settings, t: Transfer, entries: &[u16], k: usize, mem: &mut 
             next = 1;
             low = v;
         } else {
-            dots::cycle(mem, wiring, c, wdat::pattern_of(t, low, v), op);
+            dots::cycle(mem, wiring, c, wdat::set_pattern(mapped, t, low, v), op);
             c = dots::word_move(dir, pitch, c);
             next = 0;
             low = 0;
@@ -205,7 +207,7 @@ pub fn settle(from: Settings, entries: &[u16], k: usize, mem: &mut [u16]) -> Set
                 Command::Curs => p.cursor = parameters::curs_byte(p.cursor, i, v),
                 Command::Mask => p.cursor = parameters::mask_byte(p.cursor, i, v),
                 Command::Pram => ram_put(&mut p.ram, i, v),
-                Command::Zoom => p.zoom = first_or(i, v, p.zoom),
+                Command::Zoom => p.video.zoom = first_or(i, v, p.video.zoom),
                 Command::Pitch => p.pitch = first_or(i, v, p.pitch),
                 Command::Wdat(t) => {
                     p.progress.next = i;

@@ -1,8 +1,11 @@
--- 01, Commands and Units: WDAT's sets. "A WDAT set that becomes complete makes its cycle in the unit that takes its last byte."
+-- 01, Commands and Units, and request M-101: WDAT's sets. "A WDAT set that becomes complete makes its cycle in the unit that takes its
+-- last byte."
 use Prim.Native.Nat.{ℕ, _+_, _*_}
-use mathlib.Core.Bool.{Bool, false, cond}
+use mathlib.Core.Bool.{Bool, false, cond, _&&_, _||_}
 use mathlib.Core.List.{List}
 use lib.Dec.{eqb}
+use lib.ListN.{getD}
+use Rattle.dots.specs.Bit.{bit}
 use Rattle.dots.specs.Step.{wordMoveOf}
 use Rattle.dots.specs.Cycle.{cycled}
 use Rattle.registers.specs.declared.Transfer.{Transfer}
@@ -19,11 +22,33 @@ halfB Word i = eqb i 0
 halfB Low i = false
 halfB High i = false
 
+-- C and G of "sync byte 1", the first of the eight: 002's P1, 0 0 C F I D G S
+abbrev pub syncC : List ℕ → ℕ
+syncC sync = bit 5 (getD sync 0 0)
+
+abbrev pub syncG : List ℕ → ℕ
+syncG sync = bit 1 (getD sync 0 0)
+
+-- M-101, "bit-mapped work": "When sync byte 1 has C = 0 and G = 1, or C = G = 0 with GD set"
+unfoldable pub bitMappedB : List ℕ → Bool → Bool
+bitMappedB sync gd = (eqb (syncC sync) 0 && eqb (syncG sync) 1) || (eqb (syncC sync) 0 && eqb (syncG sync) 0 && gd)
+
+-- there "only the lowest bit of the parameter counts": "bit 0 of a word's low byte fills all sixteen pattern bits; bit 0 of a single byte
+-- fills that byte, the other being zero."
+abbrev pub bitMappedPattern : Transfer → ℕ → ℕ → ℕ
+bitMappedPattern Word low v = bit 0 low * 65535
+bitMappedPattern Low low v = bit 0 v * 255
+bitMappedPattern High low v = bit 0 v * 65280
+
 -- "WDAT uses all sixteen bits as the pattern; in a byte transfer the other byte is zero." A word comes low byte first.
 abbrev pub wdatPattern : Transfer → ℕ → ℕ → ℕ
 wdatPattern Word low v = low + 256 * v
 wdatPattern Low low v = v
 wdatPattern High low v = 256 * v
+
+-- a complete set's pattern: M-101's in bit-mapped work; "Coded character work keeps all bits"
+abbrev pub setPattern : Bool → Transfer → ℕ → ℕ → ℕ
+setPattern mapped t low v = cond mapped (bitMappedPattern t low v) (wdatPattern t low v)
 
 abbrev pub wdatProgress : Transfer → ℕ → ℕ → Progress
 wdatProgress t i low = record { command = Wdat t; next = i; low = low }
@@ -36,4 +61,5 @@ setDone t r =
 unfoldable pub wdatTaken : Transfer → ℕ → ℕ → Registers → List ℕ → State
 wdatTaken t i v r m =
     cond (halfB t i) (state (putProgress r (wdatProgress t 1 v)) m)
-    (state (setDone t r) (cycled (r .board .wiring) (r .op) (wdatPattern t (r .progress .low) v) (r .cursor) m))
+    (state (setDone t r)
+    (cycled (r .board .wiring) (r .op) (setPattern (bitMappedB (r .video .sync) (r .drawing .gd)) t (r .progress .low) v) (r .cursor) m))

@@ -3,10 +3,12 @@ use registers::Command;
 use registers::Progress;
 use registers::Registers;
 use registers::Transfer;
+use registers::Video;
 ghost use mathlib.Core.Path.{_≡_};
 ghost use Rattle.registers.specs.Put.{putProgress};
 ghost use Rattle.registers.specs.State.{state};
-ghost use Rattle.wdat.specs.Wdat.{halfB, wdatPattern, wdatProgress, setDone, wdatTaken};
+ghost use Rattle.wdat.specs.Wdat.{halfB, bitMappedB, bitMappedPattern, wdatPattern, setPattern};
+ghost use Rattle.wdat.specs.Wdat.{wdatProgress, setDone, wdatTaken};
 
 // Whether a byte leaves its set half-sent.
 pub fn half(t: Transfer, i: u8) -> bool
@@ -19,8 +21,28 @@ pub fn half(t: Transfer, i: u8) -> bool
     }
 }
 
-// The sixteen bits of a complete set.
-pub fn pattern_of(t: Transfer, low: u8, v: u8) -> u16
+// Bit-mapped work, by C and G of sync byte 1 and by GD.
+pub fn bit_mapped(video: Video, gd: bool) -> bool
+    ensures { λ b. ⌜ b ≡ bitMappedB (video .sync) gd ⌝ }
+{
+    let sync = video.sync;
+    let first = sync[0];
+    (first / 32 % 2 == 0) & ((first / 2 % 2 == 1) | gd)
+}
+
+// Bit 0 fills the pattern of a word, or its byte.
+fn filled(t: Transfer, low: u8, v: u8) -> u16
+    ensures { λ p. ⌜ p ≡ bitMappedPattern t low v ⌝ }
+{
+    match t {
+        Transfer::Word => (low % 2) as u16 * 65535,
+        Transfer::Low => (v % 2) as u16 * 255,
+        Transfer::High => (v % 2) as u16 * 65280,
+    }
+}
+
+// All bits of a set.
+fn pattern_of(t: Transfer, low: u8, v: u8) -> u16
     ensures { λ p. ⌜ p ≡ wdatPattern t low v ⌝ }
 {
     match t {
@@ -28,6 +50,16 @@ pub fn pattern_of(t: Transfer, low: u8, v: u8) -> u16
         Transfer::Low => v as u16,
         Transfer::High => 256 * v as u16,
     }
+}
+
+// The sixteen bits of a complete set.
+pub fn set_pattern(mapped: bool, t: Transfer, low: u8, v: u8) -> u16
+    ensures { λ p. ⌜ p ≡ setPattern mapped t low v ⌝ }
+{
+    if mapped {
+        return filled(t, low, v);
+    }
+    pattern_of(t, low, v)
 }
 
 // The place within a set.
@@ -64,6 +96,13 @@ pub fn wdat_taken(r: Registers, t: Transfer, i: u8, v: u8, mem: &mut [u16]) -> R
     let board = r.board;
     let wiring = board.wiring;
     let op = r.op;
-    dots::cycle(mem, wiring, r.cursor, pattern_of(t, r.progress.low, v), op);
+    let mapped = bit_mapped(r.video, r.drawing.gd);
+    dots::cycle(
+        mem,
+        wiring,
+        r.cursor,
+        set_pattern(mapped, t, r.progress.low, v),
+        op,
+    );
     set_done(r, t)
 }

@@ -22,20 +22,23 @@ record Going (from : Settings) (t : Transfer) (entries : List ℕ) (k : ℕ) (me
   rest : dataAll t from (drop k entries) mem₀ ≡ beyond (at - k) (dataAll t (within t from c next low) (drop at entries) mem)
 
 abbrev Inv-loop : tie.InvT-loop
-Inv-loop from t entries k mem₀ wiring op dir pitch c₀ next₀ low₀ at₀ mem c next low at = Going from t entries k mem₀ mem c next low at
+Inv-loop from t entries k mem₀ wiring op mapped dir pitch c₀ next₀ low₀ at₀ mem c next low at = Going from t entries k mem₀ mem c next low at
 
 abbrev μ-loop : tie.MeasureT-loop
-μ-loop from t entries k mem₀ wiring op dir pitch c₀ next₀ low₀ at₀ mem c next low at = length entries - at
+μ-loop from t entries k mem₀ wiring op mapped dir pitch c₀ next₀ low₀ at₀ mem c next low at = length entries - at
+
+bit-mapped-requires : tie.Need-bit-mapped-requires Inv-loop μ-loop
+bit-mapped-requires c κs = search needs
 
 loop-holds : tie.Need-loop-holds Inv-loop μ-loop
 loop-holds c =
-    let a = c .before .before .before .before .args in
+    let a = c .before .before .before .before .before .args in
     record {
       past = omega arith;
       long = refl;
       rest = none-before (a .k) _
           ∙ ap (λ (p : Settings). beyond (a .k - a .k) (dataAll (a .t) p (drop (a .k) (a .entries .now)) (a .mem .now)))
-          (in-progress _ (a .from) (c .before .before .before .before .pre) _ _ _);
+          (in-progress _ (a .from) (c .before .before .before .before .before .pre) _ _ _);
     }
 
 mul-e : tie.Need-mul-e Inv-loop μ-loop
@@ -50,8 +53,8 @@ cast-v c = search needs
 half-requires : tie.Need-half-requires Inv-loop μ-loop
 half-requires c κs = search needs
 
-pattern-of-requires : tie.Need-pattern-of-requires Inv-loop μ-loop
-pattern-of-requires c κs = search needs
+set-pattern-requires : tie.Need-set-pattern-requires Inv-loop μ-loop
+set-pattern-requires c κs = search needs
 
 cycle-requires : tie.Need-cycle-requires Inv-loop μ-loop
 cycle-requires c κs = search needs
@@ -68,7 +71,7 @@ loop-less c = search needs
 loop-again : tie.Need-loop-again Inv-loop μ-loop
 loop-again c =
     let l = c .before .before .before .before .before .loop in
-    let a = c .before .before .before .before .before .before .before .before .before .before .args in
+    let a = c .before .before .before .before .before .before .before .before .before .before .before .args in
     let more = c .before .before .before .before .loop-test .taken in
     let byte = c .before .before .if1 .left in
     record {
@@ -78,7 +81,8 @@ loop-again c =
           ∙ ap (beyond (l .at - a .k))
           (⊎-elim
           (λ w. half-sent _ (a .from) _ _ _ _ _ _ more byte (sym (c .before .half .ensures) ∙ w .0 .taken) (w .1) (w .2) (w .3) (w .4))
-          (λ w. completed _ (a .from) _ _ _ _ _ _ more byte _ (sym (c .before .half .ensures) ∙ w .0 .left) (w .2 .ensures)
+          (λ w. completed _ (a .from) _ _ _ _ _ _ more byte _ (sym (c .before .half .ensures) ∙ w .0 .left)
+          (c .before .before .before .before .before .before .before .bit-mapped .ensures) (w .2 .ensures)
           (w .7 ∙ w .3 .ensures)
           (w .8 ∙ w .6 .ensures) (w .9) (w .10))
           (c .if2 .came))
@@ -94,9 +98,9 @@ same-length c = c .before .before .before .loop .inv .long
 returns : tie.Need-returns Inv-loop μ-loop
 returns c =
     let l = c .before .before .before .loop in
-    let a = c .before .before .before .before .before .before .before .before .args in
+    let a = c .before .before .before .before .before .before .before .before .before .args in
     ap (λ (p : Settings). settled (record { settings = p; count = l .at - a .k }) (l .mem))
-    (in-progress _ (a .from) (c .before .before .before .before .before .before .before .before .pre) _ _ _)
+    (in-progress _ (a .from) (c .before .before .before .before .before .before .before .before .before .pre) _ _ _)
     ∙ all-before _ (within (a .t) (a .from) (l .c) (l .next) (l .low)) _
     (⊎-elim (λ w. data-ended _ (a .from) _ _ _ _ _ _ (w .left)) (λ w. data-broken _ (a .from) _ _ _ _ _ _ (w .0 .taken) (w .2 .taken))
     (c .before .before .loop-test .came))
@@ -108,12 +112,13 @@ data-taken-spec =
     (tie.spec
     Inv-loop
     μ-loop
+    bit-mapped-requires
     loop-holds
     mul-e
     shared-slice-read-e
     cast-v
     half-requires
-    pattern-of-requires
+    set-pattern-requires
     cycle-requires
     word-move-requires
     add-at

@@ -14,8 +14,11 @@ place-requires c κs = search needs
 returns : tie.Need-returns
 returns c = wdat-half _ _ _ _ _ (sym (c .before .before .half .ensures) ∙ c .before .if1 .taken) (c .place .ensures)
 
-pattern-of-requires : tie.Need-pattern-of-requires
-pattern-of-requires c κs = search needs
+bit-mapped-requires : tie.Need-bit-mapped-requires
+bit-mapped-requires c κs = search needs
+
+set-pattern-requires : tie.Need-set-pattern-requires
+set-pattern-requires c κs = search needs
 
 cycle-requires : tie.Need-cycle-requires
 cycle-requires c κs = search needs
@@ -28,8 +31,9 @@ same-length c = search needs
 
 returns-2 : tie.Need-returns-2
 returns-2 c =
-    wdat-whole _ _ _ _ _ (sym (c .before .before .before .before .before .before .before .before .half .ensures)
-    ∙ c .before .before .before .before .before .before .before .if1 .left) (c .before .before .before .before .pattern-of .ensures)
+    wdat-whole _ _ _ _ _ (sym (c .before .before .before .before .before .before .before .before .before .half .ensures)
+    ∙ c .before .before .before .before .before .before .before .before .if1 .left)
+    (c .before .before .before .before .before .before .bit-mapped .ensures) (c .before .before .before .before .set-pattern .ensures)
     (c .before .before .before .cycle .ensures) (c .set-done .ensures)
 
 pub wdat-taken-spec : {M : Type 1} → statement M
@@ -39,7 +43,8 @@ wdat-taken-spec =
     half-requires
     place-requires
     returns
-    pattern-of-requires
+    bit-mapped-requires
+    set-pattern-requires
     cycle-requires
     set-done-requires
     same-length
