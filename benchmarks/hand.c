@@ -407,7 +407,11 @@ static void take_command(struct hand *h, uint8_t b) {
     }
 }
 
-static void write_set(struct hand *h, uint16_t *mem, uint32_t fold, uint16_t pattern) {
+/* M-101: there bit 0 of a set's first byte fills all the bits that the set has. */
+static bool bit_mapped(const struct hand *h) { return !(h->sync[0] & 0x20) && (h->sync[0] & 2 || h->gd); }
+
+static void write_set(struct hand *h, uint16_t *mem, uint32_t fold, uint16_t bits, uint8_t first, uint16_t all) {
+    uint16_t pattern = !bit_mapped(h) ? bits : first & 1 ? all : 0;
     mem[h->ead & fold] = combined(h->op, mem[h->ead & fold], h->mask, pattern);
     move_word(h);
 }
@@ -450,12 +454,12 @@ static void take_parameter(struct hand *h, uint8_t v, uint16_t *mem, uint32_t fo
         if (i == 0) {
             h->low = v;
         } else {
-            write_set(h, mem, fold, h->low | v << 8);
+            write_set(h, mem, fold, h->low | v << 8, h->low, 0xFFFF);
             h->next = h->low = 0;
         }
         return;
-    case WDAT_LOW: write_set(h, mem, fold, v); h->next = 0; return;
-    case WDAT_HIGH: write_set(h, mem, fold, v << 8); h->next = 0; return;
+    case WDAT_LOW: write_set(h, mem, fold, v, v, 0xFF); h->next = 0; return;
+    case WDAT_HIGH: write_set(h, mem, fold, v << 8, v, 0xFF00); h->next = 0; return;
     }
 }
 

@@ -12,10 +12,12 @@ static inline __attribute__((always_inline)) size_t words_with(struct hand *h, c
     const struct step s = step_along(h->dir, h->pitch);
     const uint32_t move = s.lines + (uint32_t)s.side;
     const uint16_t mask = h->mask;
+    const bool mapped = bit_mapped(h);
     uint32_t ead = h->ead;
     size_t i = 0;
     for (; count - i >= 2 && (entries[i] | entries[i + 1]) < 256; i += 2) {
-        mem[ead & fold] = combined(op, mem[ead & fold], mask, (uint16_t)(entries[i] | entries[i + 1] << 8));
+        uint16_t pattern = mapped ? (entries[i] & 1) * 0xFFFF : (uint16_t)(entries[i] | entries[i + 1] << 8);
+        mem[ead & fold] = combined(op, mem[ead & fold], mask, pattern);
         ead += move;
     }
     h->ead = ead & 0x3FFFF;

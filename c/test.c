@@ -78,6 +78,12 @@ static void layout(void) {
 }
 
 // ---- the bench sheet
+// AB by WDAT 30 over the word 1234, behind RESET with its sync byte 1 and FIGS with GD or without it
+#define WRITTEN(sync, figs, word) \
+    do { \
+        start(); memory[5] = 0x1234; SEND(0x00, sync); SEND(0x4C, figs); SEND(0x49, "\x05\x00\x00"); SEND(0x4A, "\xFF\xFF"); \
+        SEND(0x30, "\xAB"); IS(memory[5], word); \
+    } while (0)
 static void worked(void) {
     static const unsigned result[4] = {0x03F3, 0x03FC, 0x00FC, 0x03FF};
     for (int op = 0; op < 4; op++) {                                       // K1 to K4
@@ -107,8 +113,9 @@ static void worked(void) {
     start();                                                               // the seventeenth waiting byte
     for (int i = 0; i < 16; i++) IS(parameter(9), 0);
     IS(parameter(9), 3); IS(command(0x49), 3); IS(r.buffer.count, 16); IS(command(0x00), 0); IS(r.buffer.count, 0);
-    start(); memory[5] = 0x1234;                                           // WDAT 30 with AB
-    SEND(0x49, "\x05\x00\x00"); SEND(0x4A, "\xFF\xFF"); SEND(0x30, "\xAB"); IS(memory[5], 0x00AB);
+    WRITTEN("\x20", "\x02", 0x00AB); WRITTEN("\x00", "\x02", 0x00AB);     // WDAT 30 with AB, in coded character work
+    WRITTEN("\x20", "\x02\x00\x40", 0x00AB); WRITTEN("\x22", "\x02\x00\x40", 0x00AB);
+    WRITTEN("\x02", "\x02", 0x00FF); WRITTEN("\x00", "\x02\x00\x40", 0x00FF); // .. and in bit-mapped work
 }
 
 // ---- sheets

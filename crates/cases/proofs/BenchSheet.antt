@@ -8,9 +8,9 @@ use Rattle.registers.specs.Size.{dotsOf}
 use Rattle.registers.specs.Sound.{allBelow, soundB}
 use Rattle.registers.specs.Buffer.{pushed, oldest, popped}
 use Rattle.commands.specs.Decode.{familyOf, commandOf}
-use Rattle.processor.specs.Command.{figureBegun, figdTaken, commandTaken}
-use Rattle.parameters.specs.Parameter.{cursBy, ramBy, pitchBy, maskBy, figsBy}
-use Rattle.wdat.specs.Wdat.{setDone, wdatTaken}
+use Rattle.processor.specs.Command.{resetDone, figureBegun, figdTaken, commandTaken}
+use Rattle.parameters.specs.Parameter.{syncBy, cursBy, ramBy, pitchBy, maskBy, figsBy}
+use Rattle.wdat.specs.Wdat.{bitMappedB, setDone, wdatTaken}
 use Rattle.processor.specs.Entry.{nextOf, parameterTaken, entryTaken}
 use Rattle.figures.specs.Figure.{patternOf, patternAt, lineDirection, errorAfter, directionAt, runningD, figureMoved, figureUnit}
 use Rattle.units.specs.Unit.{fetched, unitDone}
@@ -21,8 +21,10 @@ use Rattle.sheets.specs.Slots.{translated, translation}
 use Rattle.cases.specs.BenchSheet.{bench, BenchHolds}
 
 pub bench-holds : BenchHolds
-unfolding bench oneBit combined bit ofBits freshSet dotsOf allBelow soundB pushed oldest popped familyOf commandOf operationOf figureBegun
-    figdTaken commandTaken cursBy ramBy pitchBy maskBy figsBy setDone wdatTaken nextOf parameterTaken entryTaken patternOf patternAt
+unfolding bench oneBit combined bit ofBits freshSet dotsOf allBelow soundB pushed oldest popped familyOf commandOf operationOf resetDone
+    figureBegun figdTaken commandTaken syncBy cursBy ramBy pitchBy maskBy figsBy bitMappedB setDone wdatTaken nextOf parameterTaken
+    entryTaken patternOf patternAt
     lineDirection errorAfter directionAt runningD figureMoved figureUnit fetched unitDone reasonOf runFrom lengthB runDone queuedOr3
     commandWritten parameterWritten byteRead dirOf slopeOf lineEntries entriesOf translated translation
-bench-holds = (refl, (refl, (refl, (refl, (refl, (refl, (refl, (refl, (refl, (refl, (refl, (refl, (refl, (refl, (refl, tt)))))))))))))))
+bench-holds =
+    (refl, (refl, (refl, (refl, (refl, (refl, (refl, (refl, (refl, (refl, (refl, (refl, (refl, (refl, (refl, (refl, tt))))))))))))))))

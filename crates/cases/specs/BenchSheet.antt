@@ -81,6 +81,10 @@ flat =
     (replicate 16 0xFF)) (standing 0 0x0001))
     (replicate 16 0)
 
+-- WDAT 30 with AB, mask FFFF, word 1234, behind RESET with its sync byte 1
+abbrev pub byteWritten : ℕ → List ℕ
+byteWritten sync = played (over 0x1234) (0x100 ∷ sync ∷ 0x14A ∷ 0xFF ∷ 0xFF ∷ 0x130 ∷ 0xAB ∷ []) .mem
+
 -- ---- the sheet
 
 pub record Case : Type 1 where
@@ -116,8 +120,10 @@ bench =
     ∷ case (bytesRead 5 (played (over 0) (0x149 ∷ 0x51 ∷ 0x00 ∷ 0x10 ∷ 0x1E0 ∷ []) .regs)) (0x51 ∷ 0x00 ∷ 0x00 ∷ 0x02 ∷ 0x00 ∷ [])
     -- "The seventeenth waiting byte gets 3."
     ∷ case (refusals (replicate 17 0) freshSet) (replicate 16 0 ++ 3 ∷ [])
-    -- "WDAT 30 with AB, mask FFFF, word 1234: 00AB."
-    ∷ case (played (over 0x1234) (0x14A ∷ 0xFF ∷ 0xFF ∷ 0x130 ∷ 0xAB ∷ []) .mem) (0x00AB ∷ replicate 15 0)
+    -- "WDAT 30 with AB, mask FFFF, word 1234: 00AB.", in coded character work, as M-101 says: sync byte 1 with C = 1 and G = 0
+    ∷ case (byteWritten 0x20) (0x00AB ∷ replicate 15 0)
+    -- .. and in bit-mapped work bit 0 fills the byte: C = 0 and G = 1
+    ∷ case (byteWritten 0x02) (0x00FF ∷ replicate 15 0)
     ∷ []
 
 -- each case gives what the sheet says

@@ -25,6 +25,7 @@ fn settings_of(r: Registers) -> Settings
     let drawing = r.drawing;
     let op = r.op;
     let ram = r.ram;
+    let video = r.video;
     let progress = r.progress;
     Settings {
         board: board,
@@ -33,7 +34,7 @@ fn settings_of(r: Registers) -> Settings
         drawing: drawing,
         op: op,
         ram: ram,
-        zoom: r.video.zoom,
+        video: video,
         progress: progress,
     }
 }
@@ -46,11 +47,10 @@ fn with_settings(r: Registers, p: Settings) -> Registers
     let drawing = p.drawing;
     let op = p.op;
     let ram = p.ram;
+    let video = p.video;
     let progress = p.progress;
     let board = p.board;
     let none = processor::command::no_entries();
-    let mut video = r.video;
-    video.zoom = p.zoom;
     Registers {
         cursor: cursor,
         pitch: p.pitch,

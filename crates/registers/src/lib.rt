@@ -128,7 +128,7 @@ pub struct Drawing {
     pub dm: u16,
 }
 
-// Bytes that are stored and not acted on, but for ZOOM's low nibble.
+// Bytes that are stored and not acted on, but for ZOOM's low nibble and, where WDAT writes, C and G of the first sync byte.
 pub struct Video {
     pub zoom: u8,
     pub display: bool,

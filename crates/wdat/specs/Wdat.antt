@@ -22,16 +22,13 @@ halfB Word i = eqb i 0
 halfB Low i = false
 halfB High i = false
 
--- C and G of "sync byte 1", the first of the eight: 002's P1, 0 0 C F I D G S
-abbrev pub syncC : List ℕ → ℕ
-syncC sync = bit 5 (getD sync 0 0)
-
-abbrev pub syncG : List ℕ → ℕ
-syncG sync = bit 1 (getD sync 0 0)
-
 -- M-101, "bit-mapped work": "When sync byte 1 has C = 0 and G = 1, or C = G = 0 with GD set"
+abbrev pub mappedBy : ℕ → ℕ → Bool → Bool
+mappedBy C G GD = (eqb C 0 && eqb G 1) || (eqb C 0 && eqb G 0 && GD)
+
+-- .. sync byte 1 being the first of the eight, 002's P1: 0 0 C F I D G S
 unfoldable pub bitMappedB : List ℕ → Bool → Bool
-bitMappedB sync gd = (eqb (syncC sync) 0 && eqb (syncG sync) 1) || (eqb (syncC sync) 0 && eqb (syncG sync) 0 && gd)
+bitMappedB sync gd = mappedBy (bit 5 (getD sync 0 0)) (bit 1 (getD sync 0 0)) gd
 
 -- there "only the lowest bit of the parameter counts": "bit 0 of a word's low byte fills all sixteen pattern bits; bit 0 of a single byte
 -- fills that byte, the other being zero."

@@ -45,7 +45,8 @@ returns-3 c =
     settled-by _ (c .before .before .before .before .before .before .before .before .args .p)
     (c .before .before .before .before .before .before .before .command-of .ensures) refl
     (rw (c .before .before .before .before .before .before .first-of .ensures)
-    (nothing-set (c .before .before .before .before .before .before .before .command-of .result) (c .before .before .before .before .before .match .keys3)
+    (nothing-set (c .before .before .before .before .before .before .before .command-of .result)
+    (c .before .before .before .before .before .match .keys3)
     (c .before .before .before .before .before .before .before .before .args .byte) _))
 
 pub begin-spec : {M : Type 1} → statement M

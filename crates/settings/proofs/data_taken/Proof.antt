@@ -22,7 +22,8 @@ record Going (from : Settings) (t : Transfer) (entries : List ℕ) (k : ℕ) (me
   rest : dataAll t from (drop k entries) mem₀ ≡ beyond (at - k) (dataAll t (within t from c next low) (drop at entries) mem)
 
 abbrev Inv-loop : tie.InvT-loop
-Inv-loop from t entries k mem₀ wiring op mapped dir pitch c₀ next₀ low₀ at₀ mem c next low at = Going from t entries k mem₀ mem c next low at
+Inv-loop from t entries k mem₀ wiring op mapped dir pitch c₀ next₀ low₀ at₀ mem c next low at =
+    Going from t entries k mem₀ mem c next low at
 
 abbrev μ-loop : tie.MeasureT-loop
 μ-loop from t entries k mem₀ wiring op mapped dir pitch c₀ next₀ low₀ at₀ mem c next low at = length entries - at
