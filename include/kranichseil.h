@@ -46,7 +46,7 @@ struct kranichseil_drawing {            /* 14 bytes; what FIGS sets */
     uint16_t dc, d, d2, d1, dm;         /* 4, 6, 8, 10, 12: 14 bits each */
 };
 
-struct kranichseil_video {              /* 14 bytes; stored, not acted on but for ZOOM's low nibble */
+struct kranichseil_video {              /* 14 bytes; not acted on but for ZOOM's low nibble and, by WDAT, sync[0]'s bits 5 and 1 */
     uint8_t zoom;                       /* 0 */
     uint8_t display, vsync;             /* 1, 2: bits */
     uint8_t sync[8];                    /* 3 */
