@@ -1,8 +1,8 @@
 """The controller: the uPD7220 as document 01 describes it.
 
 This is a part of the SECOND PROGRAM. It was written from the paper alone
-(document 01, requests M-100 and M-108 of document 02, NEC's sheet 002, the
-readings) and never from the proved program, so that the two can be held
+(document 01, requests M-100, M-101 and M-108 of document 02, NEC's sheet 002,
+the readings) and never from the proved program, so that the two can be held
 against each other. It is plain and slow on purpose. Above or in each function
 stands the sentence of the paper that it puts into Python; names are 01's
 words.
@@ -12,11 +12,12 @@ A `Chip` holds the register set and the display memory. The host uses
 `run_call` judges the memory's length, and `run` does the units.
 """
 
-from commands import HIGH_BYTE, LOW_BYTE, NAMES, WORD, transfer_type, with_high_byte, with_low_byte
+from commands import NAMES, WORD, with_high_byte, with_low_byte
 from figures import Figures
 from reads import READ_MODE, WRITE_MODE, Reads
-from steps import logic_unit, whole_word_move
+from steps import logic_unit
 from wiring import FOLDED, Wiring, lawful_length
+from writes import Writes
 
 FOURTEEN_BITS = 0x3FFF       # "DC, D, D2, D1, DM 14 bits."
 BUFFER_SIZE = 16             # "the 16-entry buffer"
@@ -37,7 +38,7 @@ READ_AWAITS_ROOM = 3
 
 # ---------------------------------------------------------------- the chip
 
-class Chip(Figures, Reads, Wiring):
+class Chip(Figures, Reads, Writes, Wiring):
 
     def __init__(self, length, wiring=FOLDED):
         self.memory = [0] * length
@@ -258,12 +259,13 @@ class Chip(Figures, Reads, Wiring):
     # Each `take_...` below gets the parameter's number, 1 for the first.
 
     def take_reset(self, number, byte):
-        # "parameters that follow it load the eight sync bytes."
+        # "parameters that follow it load the eight sync bytes." They are
+        # stored; the first is asked by WDAT's sets (writes.py).
         if number <= 8:
             self.sync[number - 1] = byte
 
     def take_cchar(self, number, byte):
-        # "Sync and cursor-shape bytes are stored, not acted on"
+        # "... cursor-shape bytes are stored, not acted on"
         if number <= 3:
             self.cchar[number - 1] = byte
 
@@ -325,28 +327,6 @@ class Chip(Figures, Reads, Wiring):
             self.dm = with_low_byte(self.dm, byte)
         elif number == 11:
             self.dm = with_high_byte(self.dm, byte)
-
-    def take_wdat(self, number, byte):
-        # "WDAT uses all sixteen bits as the pattern; in a byte transfer the
-        # other byte is zero."
-        transfer = transfer_type(self.command)
-        if transfer == LOW_BYTE:
-            self.write_set(byte)
-        elif transfer == HIGH_BYTE:
-            self.write_set(byte << 8)
-        elif self.half_word is None:
-            self.half_word = byte
-        else:
-            pattern = self.half_word | byte << 8
-            self.half_word = None
-            self.write_set(pattern)
-
-    def write_set(self, pattern):
-        # "A WDAT set that becomes complete makes its cycle in the unit that
-        # takes its last byte." "After each set EAD moves a whole word along
-        # DIR, mask unchanged."
-        self.memory_cycle(pattern)
-        self.ead = whole_word_move(self.ead, self.figs & 7, self.pitch)
 
 
 # Which function loads the parameters of which command; the other commands

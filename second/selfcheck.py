@@ -9,32 +9,12 @@ papers' sentences with pencil and paper, not taken from any program.
 import sys
 
 from bench import Bench, digest
+from checking import check, summary, talk
 from commands import NAMES
 from plane import border_dots, circle_dots, dots, glyph_dots, line_dots
+from selfcheck_writes import check_bit_mapped_work
 from sheet import CIRCLE, DOT, GLYPH, LINE, RECTANGLE, Figure, Picture, block_sum, translate
 from steps import logic_unit, step, whole_word_move
-
-ACCEPTANCES = ("M 0", "O 0", "W 0", "C 0", "P 0", "L 0", "J 0")
-
-checks = 0
-wrong = 0
-
-
-def check(what, found, expected):
-    global checks, wrong
-    checks += 1
-    if found != expected:
-        wrong += 1
-        print("WRONG: %s\n  found    %s\n  expected %s" % (what, found, expected))
-
-
-def talk(what, script, answers):
-    # Sends each line of the script to a new bench; plain acceptances (`C 0`,
-    # `P 0`, ...) are left out of the comparison.
-    bench = Bench()
-    found = [bench.answer(line) for line in script.split("; ")]
-    told = [answer for answer in found if answer not in ACCEPTANCES]
-    check(what, "; ".join(told), answers)
 
 
 def block(number, count, last, records, damage=None):
@@ -572,8 +552,8 @@ def main():
     check_open_figures()
     check_wiring_at_each_call()
     check_sheets_on_odd_boards()
-    print("%d checks, %d wrong" % (checks, wrong))
-    return 1 if wrong else 0
+    check_bit_mapped_work()
+    return summary()
 
 
 if __name__ == "__main__":

@@ -50,6 +50,7 @@ def random_registers(chip, chances):
     chip.dc, chip.d, chip.d2, chip.d1, chip.dm = [chances.randrange(0x4000) for _ in range(5)]
     chip.gd, chip.operation, chip.zoom = chances.randrange(2), chances.randrange(4), chances.randrange(256)
     chip.pram = [chances.randrange(256) for _ in range(16)]
+    chip.sync = [chances.randrange(256) for _ in range(8)]
     chip.command = chances.choice([None, chances.randrange(256)])
     chip.taken = chances.randrange(14)
     if chip.command in (0x20, 0x21, 0x22, 0x23) and chances.random() < 0.5:

@@ -135,6 +135,20 @@ class Basics:
         self.send_and_run(0x70 + address, *[self.pick([0xFF, 0x00, self.byte(), self.byte()])
                                            for _ in range(self.below(9) + 1)])
 
+    def set_sync(self):
+        # Sync byte 1 with any C and G, its other bits and the other bytes any.
+        first = self.pick([0x00, 0x00, 0x02, 0x02, 0x20, 0x22]) | self.pick([0, self.byte() & 0xDD])
+        self.send_and_run(0x00, first, *[self.byte() for _ in range(self.pick([0, 0, 1, 7, 8]))])
+
+    def set_direction(self):
+        self.send_and_run(0x4C, self.byte())
+
+    def set_gd(self):
+        # FIGS with DC, and GD in its high byte; then at times FIGS without.
+        self.send_and_run(0x4C, self.byte(), self.byte(), self.byte() & 0xBF | self.pick([0, 0x40, 0x40]))
+        if self.chance(0.4):
+            self.send_and_run(0x4C, *[self.byte() for _ in range(self.below(3))])
+
     def set_operation(self):
         # WDAT's command byte; the type does not matter to figures.
         self.send_and_run(self.pick(WDAT_BYTES))

@@ -12,15 +12,19 @@ from chip import Chip                # noqa: E402
 from commands import NAMES           # noqa: E402
 from counted_wirings import (  # noqa: E402
     count_crossing, count_meeting, count_move, count_run_call, count_transfer, over_the_end, where_met)
+from counted_writes import count_beside, count_change, count_set, kind_of_work  # noqa: E402
 from figures import signed, wrapped  # noqa: E402
 from reads import READ_MODE, WRITE_MODE  # noqa: E402
 from rows import (  # noqa: E402
-    DIRECTIONS, MASK_KINDS, MOST_PARAMETERS, MOVES, OPERATION_NAMES, PLACES, TRANSFERS, WHENS, class_of_command, reached,
+    DIRECTIONS, MOST_PARAMETERS, MOVES, OPERATION_NAMES, PLACES, TRANSFERS, WHENS, class_of_command, kind_of_mask, reached,
     wide_marks)
 from wiring import OPEN              # noqa: E402
 
 
 class CountingChip(Chip):
+
+    older_gd = False             # whether the last FIGS left GD as it was
+    last_work = None             # the kind of work of the last WDAT set
 
     def command_port(self, byte):
         held, mode = len(self.buffer), self.mode
@@ -132,6 +136,7 @@ class CountingChip(Chip):
         if self.half_word is not None:
             by = NAMES[byte] if NAMES[byte] in ("WDAT", "RESET", "unknown") else "another command"
             reached("half word dropped by " + by)
+            count_beside(self, "half word dropped by " + by)
         Chip.begin_command(self, byte)
 
     def take_command(self, byte):
@@ -142,6 +147,8 @@ class CountingChip(Chip):
             self.count_no_arc(name, self.figs >> 3)
         if name in ("RDAT", "CURD", "LPRD"):
             reached("%s with %s behind it" % (name, "entries" if self.buffer else "nothing"))
+        if name == "FIGS":
+            self.older_gd = True
         if name == "LPRD" and self.pen_set:
             reached("LPRD clears bit 7")
         Chip.take_command(self, byte)
@@ -166,6 +173,8 @@ class CountingChip(Chip):
             reached("parameter %s %s" % (name, number if number <= MOST_PARAMETERS[name] else "surplus"))
             if name == "CURS" and number == 3:
                 reached("CURS names dot %d" % (byte >> 4))
+            if name == "FIGS" and number == 3:
+                self.older_gd = False
         elif name == "PRAM":
             reached("parameter PRAM " + ("kept" if self.command % 16 + number <= 16 else "past 15"))
         elif name == "WDAT":
@@ -180,6 +189,12 @@ class CountingChip(Chip):
             reached("parameter WDAT %s of a word" % ("first" if self.half_word is None else "second"))
         else:
             reached("parameter WDAT " + TRANSFERS[transfer])
+
+    def pattern_of_set(self, all_bits, byte, filled):
+        count_set(self, all_bits, byte, self.older_gd)
+        count_change(self.last_work, kind_of_work(self))
+        self.last_work = kind_of_work(self)
+        return Chip.pattern_of_set(self, all_bits, byte, filled)
 
     def write_set(self, pattern):
         reached("WDAT %s %s" % (TRANSFERS[self.command >> 3 & 3], OPERATION_NAMES[self.operation]))
@@ -196,6 +211,7 @@ class CountingChip(Chip):
             reached("RDAT folded")
         before = self.ead
         count_transfer(self, "RDAT", transfer)
+        count_beside(self, "RDAT " + TRANSFERS[transfer])
         if transfer != 0 and held == 15:
             reached("RDAT %s goes on at 15" % TRANSFERS[transfer])
         Chip.read_item(self)
@@ -206,7 +222,7 @@ class CountingChip(Chip):
     def memory_cycle(self, pattern):
         figure = self.figure
         many[count_cycle, figure and figure.kind, figure and figure.direction, self.operation, pattern & 1,
-             MASKS.get(bin(self.mask).count("1"), MASK_KINDS[3]), where_met(self), self.ead >= len(self.memory)] += 1
+             kind_of_mask(self.mask), where_met(self), self.ead >= len(self.memory)] += 1
         if figure is not None and self.mask in DOTS:
             place = 0 if figure.place == 0 else 2 if figure.place == figure.dots - 1 else 1
             many[count_dot, place, DOTS[self.mask]] += 1
@@ -243,6 +259,7 @@ class CountingChip(Chip):
                 reached("character: more than 2^32 units")
         Chip.start_figure(self, kind, dots, passed)
         if self.figure is not None:
+            count_beside(self, kind)
             factor = self.figure.factor
             self.figure.marks = wide_marks((self.dc + 1) * factor, self.d * factor) if kind == "character" else {}
 
@@ -293,7 +310,6 @@ def where_in_arc(figure):
 
 many = Counter()
 last_step = [0]              # the direction of the step made last
-MASKS = {0: MASK_KINDS[0], 1: MASK_KINDS[1], 16: MASK_KINDS[2]}
 DOTS = {1 << dot: dot for dot in range(16)}
 
 

@@ -16,6 +16,7 @@ sys.path.insert(0, os.path.join(HERE, os.pardir, "second"))
 from bench import OPERATIONS, Bench  # noqa: E402
 from reads import READ_MODE          # noqa: E402
 from counted_wirings import count_malformed_field, count_new_memory, count_put, count_x_of_wirings  # noqa: E402
+from counted_writes import count_beside  # noqa: E402
 from counting import CountingChip, settle  # noqa: E402
 from plane import how_far_out        # noqa: E402
 from rows import OPERATION_NAMES, SIDES, counts, reached, rows  # noqa: E402
@@ -69,6 +70,7 @@ class CountingBench(Bench):
         count_x_of_wirings(self)
         if self.may_be_held_to_the_geometry():
             reached("X held to the geometry")
+            count_beside(chip, "X held to the geometry")
             if any(figure.kind == CIRCLE for figure in figures):
                 reached("X of circles held to the geometry")
             if chip.half_word is not None:

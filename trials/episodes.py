@@ -116,7 +116,10 @@ class Episodes(Basics):
             self.emit("U", self.below(300))
 
     def write(self):
-        self.reset_at_times(0.7)
+        if self.chance(0.6):
+            self.set_sync()
+        else:
+            self.reset_at_times()
         if self.chance(0.5):
             self.set_position()
         if self.chance(0.7):
@@ -124,7 +127,7 @@ class Episodes(Basics):
         if self.chance(0.4):
             self.set_pitch()
         if self.chance(0.6):
-            self.send_and_run(0x4C, self.byte())
+            self.pick([self.set_gd, self.set_direction])()
         for _ in range(self.below(3) + 1):
             byte = self.pick(WDAT_BYTES)
             if self.chance(0.1):
@@ -133,7 +136,26 @@ class Episodes(Basics):
             self.emit("U", self.below(20))
             if self.chance(0.3):
                 self.send(self.pick([self.pick(PLAIN_COMMANDS), 0x24, 0x28, 0xA8, 0xA4, 0x41]), self.byte())
+            if self.chance(0.1):
+                self.pick([self.set_sync, self.set_gd])()
         self.emit("U", 20)
+
+    def sets(self):
+        # Whole sets of all types; before each few of them RESET with other
+        # sync bytes, and often FIGS with a GD.
+        for _ in range(self.below(3) + 1):
+            self.set_sync()
+            if self.chance(0.6):
+                self.set_gd()
+            if self.chance(0.5):
+                self.set_position()
+            if self.chance(0.7):
+                self.set_mask()
+            if self.chance(0.3):
+                self.set_pitch()
+            for _ in range(self.below(3) + 1):
+                self.send_and_run(self.pick(WDAT_BYTES), *[self.byte() for _ in range(self.pick([2, 2, 4, 6]))])
+            self.look_at_words()
 
     def read(self):
         settled = self.chance(0.8)

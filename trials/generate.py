@@ -35,6 +35,7 @@ WEIGHTS = {
     "figure": 30,           # a figure with its registers, cut by small runs
     "wide": 4,              # a character past 16 or 32 bits, cut by small runs
     "write": 10,            # WDAT of all types
+    "sets": 12,             # whole WDAT sets, by any sync byte and GD
     "read": 12,             # RDAT of all types
     "answers": 6,           # CURD, LPRD, the light pen
     "partial": 12,          # commands with too few or too many parameters

@@ -22,6 +22,7 @@ PLACES = ["first", "inner", "last"]
 SHEET_KINDS = ["dot", "line", "line of one dot", "diagonal line", "rectangle", "flat rectangle",
                "standing rectangle", "rectangle of one dot", "glyph", "circle"]
 MASK_KINDS = ["0000", "one bit", "FFFF", "of other bits"]
+MASKS_BY_BITS = {0: MASK_KINDS[0], 1: MASK_KINDS[1], 16: MASK_KINDS[2]}
 
 # When an arc's move is made: before the first dot that it draws, between two
 # dots that it draws, or, where it draws none, by FIGD.
@@ -34,6 +35,12 @@ SIDES = ["left", "right", "top", "bottom"]
 WHERES = ["inside", "in the last word", "at the length itself", "further past the end"]
 STATES = ["with nothing to do", "with entries waiting", "in a read", "in a figure"]
 WIRING_NAMES = ["folded", "open"]
+
+# What WDAT's sets are by sync byte 1 and GD, and the bits of that byte that have
+# no part in it.
+WORK_KINDS = ["all bits", "bit-mapped"]
+OTHER_SYNC_BITS = [7, 6, 4, 3, 2, 0]
+DROPPERS = ["WDAT", "RESET", "unknown", "another command"]
 
 # Dots of a character by which a program with narrower numbers is told.
 PAST_WIDTH = "on past its row's dots modulo 65,536"
@@ -48,6 +55,14 @@ counts = Counter()
 
 def reached(row, times=1):
     counts[row] += times
+
+
+def kind_of_mask(mask):
+    return MASKS_BY_BITS.get(bin(mask).count("1"), MASK_KINDS[3])
+
+
+def work_named(c, g, gd):
+    return "C %d, G %d, GD %d" % (c, g, gd)
 
 
 def class_of_command(byte):
@@ -94,7 +109,7 @@ def rows():
         if row not in table:
             table.append(row)
     table += rows_of_parameters() + rows_of_figures() + rows_of_steps()
-    table += rows_of_reads() + rows_of_ports() + rows_of_sheets() + rows_of_wirings() + rows_of_language()
+    table += rows_of_reads() + rows_of_ports() + rows_of_sheets() + rows_of_wirings() + rows_of_sets() + rows_of_language()
     return table
 
 
@@ -109,7 +124,7 @@ def rows_of_parameters():
     table += ["parameter WDAT " + what for what in ("first of a word", "second of a word", "low byte", "high byte")]
     table += ["parameter before any command", "parameter of an unknown byte"]
     table += ["parameter of %s" % name for name in ("VSYNC", "START", "FIGD", "GCHRD")]
-    table += ["half word dropped by " + name for name in ("WDAT", "RESET", "unknown", "another command")]
+    table += ["half word dropped by " + name for name in DROPPERS]
     table += ["WDAT %s %s" % (TRANSFERS[t], o) for t in TRANSFERS for o in OPERATION_NAMES]
     table += ["WDAT moves " + direction for direction in DIRECTIONS]
     return table
@@ -260,6 +275,25 @@ def rows_of_wired_sheets():
               for what in ("that fits exactly", "smaller than", "larger than") for which in odd]
     table += ["X held to the geometry under open wiring" + which for which in odd]
     table += ["? for %s %s" % (letter, what) for letter in "FJ" for what in ("108", "of no request or another")]
+    return table
+
+
+def rows_of_sets():
+    transfers = [TRANSFERS[t] for t in TRANSFERS]
+    works = [work_named(c, g, gd) for c in (0, 1) for g in (0, 1) for gd in (0, 1)]
+    table = ["set with %s: %s, bit 0 is %d" % (work, t, bit) for work in works for t in transfers for bit in (0, 1)]
+    table += ["set with %s: word, bit 0 is %d and not in the high byte" % (work, bit) for work in works for bit in (0, 1)]
+    table += ["set with %s, older than the last FIGS" % work for work in works[:2]]
+    table += ["%s, and bit %d of sync byte 1 is set" % (kind, bit) for kind in WORK_KINDS for bit in OTHER_SYNC_BITS]
+    table += ["%s%s" % (kind, what) for kind in WORK_KINDS
+              for what in (", and sync byte 2 would say otherwise", " after a set that was not")]
+    table += ["bit-mapped: %s by %s, bit 0 is %d" % (t, operation, bit)
+              for t in transfers for operation in OPERATION_NAMES for bit in (0, 1)]
+    table += ["bit-mapped: mask " + mask for mask in MASK_KINDS]
+    table += ["bit-mapped: a set moves " + direction for direction in DIRECTIONS]
+    table += ["bit-mapped: %s %s of an open memory" % (t, where) for t in transfers for where in WHERES]
+    table += ["bit-mapped: half word dropped by " + name for name in DROPPERS]
+    table += ["bit-mapped: " + what for what in KINDS + ["RDAT " + t for t in transfers] + ["X held to the geometry"]]
     return table
 
 

@@ -34,7 +34,7 @@ class Wirings(Curves):
             self.emit("W", self.length - 1 - self.below(10), self.below(0x10000))
         for _ in range(self.below(3) + 1):
             first = len(self.lines)
-            getattr(self, self.pick(["figure", "figure", "arc", "write", "read", "read", "loose"]))()
+            getattr(self, self.pick(["figure", "figure", "arc", "write", "sets", "sets", "read", "read", "loose"]))()
             self.put_wirings(first)
             self.look_at_the_end()
             self.refuse_at_times()
