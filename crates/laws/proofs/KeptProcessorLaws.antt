@@ -34,7 +34,7 @@ use Rattle.commands.specs.Decode.{within, commandOf}
 use Rattle.processor.specs.Command.{begun, resetDone, turned, cursorBytes, penBytes, figureBegun, figdTaken, characterBegun}
 use Rattle.processor.specs.Command.{readBegun, commandBy, commandTaken}
 use Rattle.parameters.specs.Parameter.{cursBy, maskBy, figsBy, ramBy, pitchBy, syncBy, ccharBy, zoomBy}
-use Rattle.wdat.specs.Wdat.{halfB, bitMappedB, setPattern, wdatProgress, setDone, wdatTaken}
+use Rattle.wdat.specs.Wdat.{halfB, bitMappedB, setPattern, firstSync, wdatProgress, setDone, wdatTaken}
 use Rattle.processor.specs.Entry.{nextOf, counted, parameterBy, parameterTaken, entryTaken}
 use Rattle.laws.proofs.BranchLaws.{either, cases}
 use Rattle.laws.proofs.SoundLaws.{DrawingFits}
@@ -216,7 +216,7 @@ module _ {board : Board} (n : ℕ) (r : Registers) (m : List ℕ) (w : Whole boa
   wdat-kept t i v =
       either (Whole board n) (halfB t i)
       (left (progress-kept r (w .regs) (wdatProgress t 1 v) (omega arith)))
-      (cycle-kept n (r .board .wiring) (r .op) (setPattern (bitMappedB (r .video .sync) (r .drawing .gd)) t (r .progress .low) v) r
+      (cycle-kept n (r .board .wiring) (r .op) (setPattern (bitMappedB (firstSync r) (r .drawing .gd)) t (r .progress .low) v) r
       (setDone t r) m w (set-kept t))
 
   module _ (e : r .work ≡ Idle) (i v : ℕ) (byte : v < 256) where

@@ -25,6 +25,7 @@ use Rattle.registers.proofs.BoolLaws.{false-true, and-left, and-right}
 use Rattle.processor.specs.Entry.{entryTaken}
 use Rattle.settings.specs.declared.Settings.{Settings}
 use Rattle.settings.specs.declared.Settled.{Settled}
+use Rattle.wdat.specs.Wdat.{firstSync}
 use Rattle.settings.specs.Settings.{Taken, Settlement, settableB, putSettings, settingsOf, settingTaken, settled, oneMore, settleAll}
 use Rattle.settings.proofs.SettingsLaws.{settable-below, settable-no-reset, entry-setting}
 use Rattle.units.specs.declared.Ran.{Ran}
@@ -157,7 +158,7 @@ module _ (board : Board) (n : ℕ) (right : lengthB (board .wiring) n ≡ true) 
     module _ (p : Settings) (m : List ℕ) (w : Whole board n (with p m)) (e : ℕ) (l : List ℕ)
         (t : settableB (p .progress .command) e ≡ true) where
       abbrev next : Taken
-      next = settingTaken e p m
+      next = settingTaken (firstSync r) e p m
 
       abbrev after : State
       after = with (next .settings) (next .mem)
@@ -183,20 +184,20 @@ module _ (board : Board) (n : ℕ) (right : lengthB (board .wiring) n ≡ true) 
             ∙ ap₂ (λ (a b : ℕ). wentOn a b (with (q .settings) (q .mem)) (drop (q .count) l)) f g;
       }
 
-    sets : (l : List ℕ) (p : Settings) (m : List ℕ) → Whole board n (with p m) → Sets (with p m) l (settleAll p l m)
+    sets : (l : List ℕ) (p : Settings) (m : List ℕ) → Whole board n (with p m) → Sets (with p m) l (settleAll (firstSync r) p l m)
     unfolding settleAll
     sets [] p m w = sets-none p m [] w
     sets (e ∷ l) p m w =
         cases (Sets (with p m) (e ∷ l)) (settableB (p .progress .command) e)
-        (λ t. sets-one p m w e l t _ (sets l (settingTaken e p m .settings) (settingTaken e p m .mem) (set-part p m w e l t .whole)))
+        (λ t. sets-one p m w e l t _ (sets l (next p m w e l t .settings) (next p m w e l t .mem) (set-part p m w e l t .whole)))
         (λ t. sets-none p m (e ∷ l) w)
 
   -- ---- the first entries of a list
   -- where none was set, the memory is as it was
-  unset : (l : List ℕ) (p : Settings) (m : List ℕ) → settleAll p l m .count ≡ 0 → settleAll p l m .mem ≡ m
+  unset : (sync : ℕ) (l : List ℕ) (p : Settings) (m : List ℕ) → settleAll sync p l m .count ≡ 0 → settleAll sync p l m .mem ≡ m
   unfolding settleAll
-  unset [] p m z = refl
-  unset (e ∷ l) p m z =
+  unset sync [] p m z = refl
+  unset sync (e ∷ l) p m z =
       cases (λ (q : Settlement). q .count ≡ 0 → q .mem ≡ m) (settableB (p .progress .command) e) (λ t y. absurd (omega arith))
       (λ t y. refl) z
 
@@ -225,8 +226,8 @@ module _ (board : Board) (n : ℕ) (right : lengthB (board .wiring) n ≡ true) 
           first-part r w v .on k u
           ∙ sym (first-part (drained r) empties (waits-with r (v .mode) (v .idle) (settingsOf r) (s .mem) empties) .on k u)
 
-      settled-part : (0 < settleAll (settingsOf r) (e ∷ l) (s .mem) .count)
-          → Part board n s (e ∷ l) (setBy r (settleAll (settingsOf r) (e ∷ l) (s .mem)))
+      settled-part : (0 < settleAll (firstSync r) (settingsOf r) (e ∷ l) (s .mem) .count)
+          → Part board n s (e ∷ l) (setBy r (settleAll (firstSync r) (settingsOf r) (e ∷ l) (s .mem)))
       settled-part some =
           let all = sets r (v .mode) (v .idle) (e ∷ l) (settingsOf r) (s .mem) empties in
           record {
@@ -246,7 +247,7 @@ module _ (board : Board) (n : ℕ) (right : lengthB (board .wiring) n ≡ true) 
     pub set-none : setAt e (e ∷ l) s .count ≡ 0 → setAt e (e ∷ l) s .mem ≡ s .mem
     unfolding setAt
     set-none =
-        either (λ (q : Settlement). q .count ≡ 0 → q .mem ≡ s .mem) nowB (unset (e ∷ l) (settingsOf r) (s .mem)) (λ z. refl)
+        either (λ (q : Settlement). q .count ≡ 0 → q .mem ≡ s .mem) nowB (unset (firstSync r) (e ∷ l) (settingsOf r) (s .mem)) (λ z. refl)
 
     -- one entry that is taken, and one that is refused
     pub first-taken : firstSent e s .list .number ≡ 0 → Part board n s (e ∷ l) (firstSent e s)
@@ -273,9 +274,11 @@ begins e r m none taken ran =
 
 -- the test decides each
 module _ (e : ℕ) (l : List ℕ) (s : State) {t : Bool} (is : t ≡ atOnceB (s .regs .mode) (s .regs .work) (s .regs .buffer .count) e) where
-  pub sets-at-once : {p : Settings} {q : Settlement} → t ≡ true → p ≡ settingsOf (s .regs) → q ≡ settleAll p l (s .mem) → q ≡ setAt e l s
+  pub sets-at-once : {p : Settings} {q : Settlement} → t ≡ true → p ≡ settingsOf (s .regs)
+      → q ≡ settleAll (firstSync (s .regs)) p l (s .mem)
+      → q ≡ setAt e l s
   unfolding setAt
-  sets-at-once y h a = a ∙ ap (λ (x : Settings). settleAll x l (s .mem)) h ∙ rw (sym is ∙ y)
+  sets-at-once y h a = a ∙ ap (λ (x : Settings). settleAll (firstSync (s .regs)) x l (s .mem)) h ∙ rw (sym is ∙ y)
 
   pub sets-nothing : {p : Settings} → t ≡ false → p ≡ settingsOf (s .regs) → record { settings = p; count = 0; mem = s .mem } ≡ setAt e l s
   unfolding setAt

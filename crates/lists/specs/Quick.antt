@@ -9,6 +9,7 @@ use Rattle.registers.specs.Put.{putBuffer}
 use Rattle.registers.specs.State.{State, state}
 use Rattle.processor.specs.Entry.{entryTaken}
 use Rattle.settings.specs.Settings.{Settlement, putSettings, settingsOf, settleAll}
+use Rattle.wdat.specs.Wdat.{firstSync}
 use Rattle.units.specs.Run.{Outcome, runFrom}
 use Rattle.sends.specs.Sends.{ListOutcome, listed, listTaken}
 use Rattle.sends.specs.Once.{atOnceB}
@@ -33,7 +34,8 @@ noneSet s = record { settings = settingsOf (s .regs); count = 0; mem = s .mem }
 -- of a list, e being the first: all that only set registers, up to the first that does more, where the controller takes e at once
 unfoldable pub setAt : ℕ → List ℕ → State → Settlement
 setAt e l s =
-    cond (atOnceB (s .regs .mode) (s .regs .work) (s .regs .buffer .count) e) (settleAll (settingsOf (s .regs)) l (s .mem)) (noneSet s)
+    cond (atOnceB (s .regs .mode) (s .regs .work) (s .regs .buffer .count) e)
+        (settleAll (firstSync (s .regs)) (settingsOf (s .regs)) l (s .mem)) (noneSet s)
 
 -- one entry, taken at once, else by its port
 unfoldable pub firstSent : ℕ → State → ListOutcome

@@ -25,7 +25,6 @@ fn settings_of(r: Registers) -> Settings
     let drawing = r.drawing;
     let op = r.op;
     let ram = r.ram;
-    let video = r.video;
     let progress = r.progress;
     Settings {
         board: board,
@@ -34,7 +33,7 @@ fn settings_of(r: Registers) -> Settings
         drawing: drawing,
         op: op,
         ram: ram,
-        video: video,
+        zoom: r.video.zoom,
         progress: progress,
     }
 }
@@ -47,10 +46,11 @@ fn with_settings(r: Registers, p: Settings) -> Registers
     let drawing = p.drawing;
     let op = p.op;
     let ram = p.ram;
-    let video = p.video;
     let progress = p.progress;
     let board = p.board;
     let none = processor::command::no_entries();
+    let mut video = r.video;
+    video.zoom = p.zoom;
     Registers {
         cursor: cursor,
         pitch: p.pitch,
@@ -89,9 +89,11 @@ fn set_at(r: Registers, e: u16, entries: &[u16], k: usize, mem: &mut [u16]) -> S
 {
     let mode = r.mode;
     let work = r.work;
+    let sync = r.video.sync;
+    let first = sync[0];
     let p = settings_of(r);
     if sends::at_once(mode, work, r.buffer.count, e) {
-        return settings::settle(p, entries, k, mem);
+        return settings::settle(first, p, entries, k, mem);
     }
     Settled {
         settings: p,

@@ -62,24 +62,24 @@ module _ (t : Transfer) (p : Settings) where
       → setProgress (setCursor p c) (record { command = p .progress .command; next = next; low = low }) ≡ within t p c next low
   in-progress h c next low = ap (λ (k : Command). setProgress (setCursor p c) (record { command = k; next = next; low = low })) h
 
-  module _ (entries : List ℕ) (at : ℕ) (c : Cursor) (next low : ℕ) (m : List ℕ) where
+  module _ (sync : ℕ) (entries : List ℕ) (at : ℕ) (c : Cursor) (next low : ℕ) (m : List ℕ) where
     abbrev e : ℕ
     e = getD entries at 0
 
     abbrev now : Settlement
-    now = dataAll t (within t p c next low) (drop at entries) m
+    now = dataAll sync t (within t p c next low) (drop at entries) m
 
     -- what the byte leaves: the joined values of the code
     module _ (more : at < length entries) (byte : e < 256) {c′ : Cursor} {next′ low′ : ℕ} {m′ : List ℕ} where
       pub half-sent : halfB t next ≡ true → m′ ≡ m → c′ ≡ c → next′ ≡ 1 → low′ ≡ e % 256
-          → now ≡ oneMore (dataAll t (within t p c′ next′ low′) (drop (at + 1) entries) m′)
+          → now ≡ oneMore (dataAll sync t (within t p c′ next′ low′) (drop (at + 1) entries) m′)
       unfolding dataAll dataSet
       half-sent h f g k l = rw (here entries at more, lt-ltb e 256 byte, h, f, g, k, l, mod-eq-of-lt byte)
 
-      pub completed : (x : ℕ) {b : Bool} → halfB t next ≡ false → b ≡ bitMappedB (p .video .sync) (p .drawing .gd)
-          → x ≡ setPattern b t low (e % 256) → m′ ≡ cycled (p .board .wiring) (p .op) x c m
+      pub completed : (x : ℕ) {b : Bool} → halfB t next ≡ false → b ≡ bitMappedB sync (p .drawing .gd) → x ≡ setPattern b t low (e % 256)
+          → m′ ≡ cycled (p .board .wiring) (p .op) x c m
           → c′ ≡ wordMoveOf (p .drawing .dir) (p .pitch) c → next′ ≡ 0 → low′ ≡ 0
-          → now ≡ oneMore (dataAll t (within t p c′ next′ low′) (drop (at + 1) entries) m′)
+          → now ≡ oneMore (dataAll sync t (within t p c′ next′ low′) (drop (at + 1) entries) m′)
       unfolding dataAll dataSet
       completed x h b y f g k l = rw (here entries at more, lt-ltb e 256 byte, h, f, g, k, l, y, b, mod-eq-of-lt byte)
 

@@ -20,7 +20,7 @@ use Rattle.registers.proofs.BoolLaws.{false-true, and-right}
 use Rattle.commands.specs.Decode.{commandOf}
 use Rattle.processor.specs.Command.{begun, commandBy, commandTaken}
 use Rattle.parameters.specs.Parameter.{zoomBy, ramBy, pitchBy}
-use Rattle.wdat.specs.Wdat.{halfB, setDone, wdatTaken}
+use Rattle.wdat.specs.Wdat.{halfB, firstSync, setDone, wdatTaken}
 use Rattle.processor.specs.Entry.{counted, parameterBy, parameterTaken, entryTaken}
 use Rattle.settings.specs.declared.Settings.{Settings}
 use Rattle.settings.specs.Put.{setProgress}
@@ -37,8 +37,8 @@ settings-of-put r p = refl
 -- .. and the rest is left
 pub put-leaves : (r : Registers) (p : Settings)
     → (putSettings r p .mode ≡ r .mode) × (putSettings r p .buffer ≡ r .buffer) × (putSettings r p .work ≡ r .work)
-    × (putSettings r p .pen ≡ r .pen)
-put-leaves r p = (refl, refl, refl, refl)
+    × (putSettings r p .pen ≡ r .pen) × (putZoom (putSettings r p .video) (r .video .zoom) ≡ r .video)
+put-leaves r p = (refl, refl, refl, refl, refl)
 
 -- ---- which entries they are: below 512, and not RESET
 below-by : (e : ℕ) (a b q s : Bool) → ltb e 256 ≡ a → ltb e 512 ≡ b → cond a q (b && s) ≡ true → e < 512
@@ -87,11 +87,12 @@ module _ (r : Registers) where
   of-test f false x y = refl
 
   module _ (p : Settings) (i v : ℕ) (m : List ℕ) where
-    data-setting : (t : Transfer) → wdatTaken t i v (putSettings r p) m ≡ stateOf r (dataSet t i v p m)
+    data-setting : (t : Transfer) → wdatTaken t i v (putSettings r p) m ≡ stateOf r (dataSet (firstSync r) t i v p m)
     unfolding wdatTaken setDone dataSet
     data-setting t = of-test (stateOf r) (halfB t i) _ _
 
-    parameter-setting : (c : Command) → settingB c ≡ true → parameterBy c i v (putSettings r p) m ≡ stateOf r (parameterSet c i v p m)
+    parameter-setting : (c : Command) → settingB c ≡ true
+        → parameterBy c i v (putSettings r p) m ≡ stateOf r (parameterSet (firstSync r) c i v p m)
     unfolding zoomBy ramBy pitchBy
     parameter-setting Nothing s = refl
     parameter-setting Reset s = absurd (false-true s)
@@ -99,7 +100,7 @@ module _ (r : Registers) where
     parameter-setting Cchar s = absurd (false-true s)
     parameter-setting Start s = refl
     parameter-setting Zoom s =
-        ap (λ (w : Video). state (putVideo (putSettings r p) w) m) (of-test (putZoom (p .video)) (eqb i 0) v (p .video .zoom))
+        ap (λ (w : Video). state (putVideo (putSettings r p) w) m) (of-test (putZoom (r .video)) (eqb i 0) v (p .zoom))
     parameter-setting Curs s = refl
     parameter-setting Pram s = ap (λ (q : Registers). state q m) (of-test (putRam (putSettings r p)) (ltb i 16) (set (p .ram) i v) (p .ram))
     parameter-setting Pitch s = ap (λ (q : Registers). state q m) (of-test (putPitch (putSettings r p)) (eqb i 0) v (p .pitch))
@@ -116,7 +117,7 @@ module _ (r : Registers) where
   module _ (e : ℕ) (p : Settings) (m : List ℕ) where
     entry-by : (t : Bool) → ltb e 256 ≡ t
         → cond t (settingB (p .progress .command)) (ltb e 512 && settingB (commandOf (e % 256))) ≡ true
-        → entryTaken e (state (putSettings r p) m) ≡ stateOf r (settingTaken e p m)
+        → entryTaken e (state (putSettings r p) m) ≡ stateOf r (settingTaken (firstSync r) e p m)
     unfolding entryTaken parameterTaken commandTaken settingTaken
     entry-by true h s =
         rw h (parameter-setting (setProgress p (counted (p .progress))) (p .progress .next) e m (p .progress .command) s)
@@ -125,6 +126,7 @@ module _ (r : Registers) where
         (commandOf (e % 256)) (and-right (ltb e 512) _ s)))
 
     pub entry-setting : settableB (p .progress .command) e ≡ true
-        → entryTaken e (state (putSettings r p) m) ≡ state (putSettings r (settingTaken e p m .settings)) (settingTaken e p m .mem)
+        → entryTaken e (state (putSettings r p) m)
+            ≡ state (putSettings r (settingTaken (firstSync r) e p m .settings)) (settingTaken (firstSync r) e p m .mem)
     unfolding settableB
     entry-setting s = entry-by (ltb e 256) refl s

@@ -5,7 +5,6 @@ use Rattle.dots.specs.declared.Cursor.{Cursor}
 use Rattle.dots.specs.declared.Operation.{Operation}
 use Rattle.registers.specs.declared.Drawing.{Drawing}
 use Rattle.registers.specs.declared.Progress.{Progress}
-use Rattle.registers.specs.Put.{putZoom}
 use Rattle.settings.specs.declared.Settings.{Settings}
 
 abbrev pub setCursor : Settings → Cursor → Settings
@@ -17,7 +16,7 @@ setCursor p x =
       drawing = p .drawing;
       op = p .op;
       ram = p .ram;
-      video = p .video;
+      zoom = p .zoom;
       progress = p .progress;
     }
 
@@ -30,7 +29,7 @@ setPitch p x =
       drawing = p .drawing;
       op = p .op;
       ram = p .ram;
-      video = p .video;
+      zoom = p .zoom;
       progress = p .progress;
     }
 
@@ -43,7 +42,7 @@ setDrawing p x =
       drawing = x;
       op = p .op;
       ram = p .ram;
-      video = p .video;
+      zoom = p .zoom;
       progress = p .progress;
     }
 
@@ -56,7 +55,7 @@ setOp p x =
       drawing = p .drawing;
       op = x;
       ram = p .ram;
-      video = p .video;
+      zoom = p .zoom;
       progress = p .progress;
     }
 
@@ -69,7 +68,7 @@ setRam p x =
       drawing = p .drawing;
       op = p .op;
       ram = x;
-      video = p .video;
+      zoom = p .zoom;
       progress = p .progress;
     }
 
@@ -82,7 +81,7 @@ setZoom p x =
       drawing = p .drawing;
       op = p .op;
       ram = p .ram;
-      video = putZoom (p .video) x;
+      zoom = x;
       progress = p .progress;
     }
 
@@ -95,6 +94,6 @@ setProgress p x =
       drawing = p .drawing;
       op = p .op;
       ram = p .ram;
-      video = p .video;
+      zoom = p .zoom;
       progress = x;
     }

@@ -14,6 +14,7 @@ use Rattle.registers.specs.declared.Command.the-variants.{Nothing, Reset, Vsync
 use Rattle.registers.specs.declared.Command.the-variants.{Gchrd, Curd, Lprd, Wdat, Rdat, Unknown}
 use Rattle.registers.specs.declared.Registers.{Registers}
 use Rattle.registers.specs.Fresh.{freshDrawing}
+use Rattle.registers.specs.Put.{putZoom}
 use Rattle.registers.specs.Width.{commandMark, entryEnd}
 use Rattle.commands.specs.Decode.{commandOf}
 use Rattle.processor.specs.Command.{begun}
@@ -59,7 +60,7 @@ putSettings r p =
       drawing = p .drawing;
       op = p .op;
       ram = p .ram;
-      video = p .video;
+      video = putZoom (r .video) (p .zoom);
       pen = r .pen;
       mode = r .mode;
       buffer = r .buffer;
@@ -77,7 +78,7 @@ settingsOf r =
       drawing = r .drawing;
       op = r .op;
       ram = r .ram;
-      video = r .video;
+      zoom = r .video .zoom;
       progress = r .progress;
     }
 
@@ -123,38 +124,39 @@ ramSet i v l = cond (ltb i 16) (set l i v) l
 abbrev pub byteSet : ℕ → ℕ → ℕ → ℕ
 byteSet i v held = cond (eqb i 0) v held
 
--- "A WDAT set that becomes complete makes its cycle", and "EAD moves a whole word along DIR, mask unchanged"
-unfoldable pub dataSet : Transfer → ℕ → ℕ → Settings → List ℕ → Taken
-dataSet t i v p m =
+-- "A WDAT set that becomes complete makes its cycle", and "EAD moves a whole word along DIR, mask unchanged"; sync byte 1, which such
+-- entries leave, and GD decide its pattern
+unfoldable pub dataSet : ℕ → Transfer → ℕ → ℕ → Settings → List ℕ → Taken
+dataSet sync t i v p m =
     cond (halfB t i) (taken (setProgress p (wdatProgress t 1 v)) m)
     (taken (setProgress (setCursor p (wordMoveOf (p .drawing .dir) (p .pitch) (p .cursor))) (wdatProgress t 0 0))
-    (cycled (p .board .wiring) (p .op) (setPattern (bitMappedB (p .video .sync) (p .drawing .gd)) t (p .progress .low) v) (p .cursor) m))
+    (cycled (p .board .wiring) (p .op) (setPattern (bitMappedB sync (p .drawing .gd)) t (p .progress .low) v) (p .cursor) m))
 
 -- the parameter v of a command, i being where it goes
-abbrev pub parameterSet : Command → ℕ → ℕ → Settings → List ℕ → Taken
-parameterSet Nothing i v p m = taken p m
-parameterSet Reset i v p m = taken p m
-parameterSet Vsync i v p m = taken p m
-parameterSet Cchar i v p m = taken p m
-parameterSet Start i v p m = taken p m
-parameterSet Zoom i v p m = taken (setZoom p (byteSet i v (p .video .zoom))) m
-parameterSet Curs i v p m = taken (setCursor p (cursBy i v (p .cursor))) m
-parameterSet Pram i v p m = taken (setRam p (ramSet i v (p .ram))) m
-parameterSet Pitch i v p m = taken (setPitch p (byteSet i v (p .pitch))) m
-parameterSet Mask i v p m = taken (setCursor p (maskBy i v (p .cursor))) m
-parameterSet Figs i v p m = taken (setDrawing p (figsBy i v (p .drawing))) m
-parameterSet Figd i v p m = taken p m
-parameterSet Gchrd i v p m = taken p m
-parameterSet Curd i v p m = taken p m
-parameterSet Lprd i v p m = taken p m
-parameterSet (Wdat t) i v p m = dataSet t i v p m
-parameterSet (Rdat t) i v p m = taken p m
-parameterSet Unknown i v p m = taken p m
+abbrev pub parameterSet : ℕ → Command → ℕ → ℕ → Settings → List ℕ → Taken
+parameterSet sync Nothing i v p m = taken p m
+parameterSet sync Reset i v p m = taken p m
+parameterSet sync Vsync i v p m = taken p m
+parameterSet sync Cchar i v p m = taken p m
+parameterSet sync Start i v p m = taken p m
+parameterSet sync Zoom i v p m = taken (setZoom p (byteSet i v (p .zoom))) m
+parameterSet sync Curs i v p m = taken (setCursor p (cursBy i v (p .cursor))) m
+parameterSet sync Pram i v p m = taken (setRam p (ramSet i v (p .ram))) m
+parameterSet sync Pitch i v p m = taken (setPitch p (byteSet i v (p .pitch))) m
+parameterSet sync Mask i v p m = taken (setCursor p (maskBy i v (p .cursor))) m
+parameterSet sync Figs i v p m = taken (setDrawing p (figsBy i v (p .drawing))) m
+parameterSet sync Figd i v p m = taken p m
+parameterSet sync Gchrd i v p m = taken p m
+parameterSet sync Curd i v p m = taken p m
+parameterSet sync Lprd i v p m = taken p m
+parameterSet sync (Wdat t) i v p m = dataSet sync t i v p m
+parameterSet sync (Rdat t) i v p m = taken p m
+parameterSet sync Unknown i v p m = taken p m
 
 -- one entry that only sets registers: the next parameter of the command in progress, or a command
-unfoldable pub settingTaken : ℕ → Settings → List ℕ → Taken
-settingTaken e p m =
-    cond (ltb e commandMark) (parameterSet (p .progress .command) (p .progress .next) e (setProgress p (counted (p .progress))) m)
+unfoldable pub settingTaken : ℕ → ℕ → Settings → List ℕ → Taken
+settingTaken sync e p m =
+    cond (ltb e commandMark) (parameterSet sync (p .progress .command) (p .progress .next) e (setProgress p (counted (p .progress))) m)
     (taken (commandSettled (e % 256) p) m)
 
 -- the settings after such entries, how many there were, and the display memory
@@ -171,16 +173,17 @@ abbrev pub oneMore : Settlement → Settlement
 oneMore s = record { settings = s .settings; count = suc (s .count); mem = s .mem }
 
 -- the entries of a list in order, up to the first that does more than set registers
-unfoldable pub settleAll : Settings → List ℕ → List ℕ → Settlement
-settleAll p [] m = record { settings = p; count = 0; mem = m }
-settleAll p (e ∷ l) m =
-    cond (settableB (p .progress .command) e) (oneMore (settleAll (settingTaken e p m .settings) l (settingTaken e p m .mem)))
+unfoldable pub settleAll : ℕ → Settings → List ℕ → List ℕ → Settlement
+settleAll sync p [] m = record { settings = p; count = 0; mem = m }
+settleAll sync p (e ∷ l) m =
+    cond (settableB (p .progress .command) e) (oneMore
+        (settleAll sync (settingTaken sync e p m .settings) l (settingTaken sync e p m .mem)))
     (record { settings = p; count = 0; mem = m })
 
 -- of them WDAT's bytes, up to the next command
-unfoldable pub dataAll : Transfer → Settings → List ℕ → List ℕ → Settlement
-dataAll t p [] m = record { settings = p; count = 0; mem = m }
-dataAll t p (e ∷ l) m =
+unfoldable pub dataAll : ℕ → Transfer → Settings → List ℕ → List ℕ → Settlement
+dataAll sync t p [] m = record { settings = p; count = 0; mem = m }
+dataAll sync t p (e ∷ l) m =
     cond (ltb e commandMark)
-    (oneMore (dataAll t (dataSet t (p .progress .next) e p m .settings) l (dataSet t (p .progress .next) e p m .mem)))
+    (oneMore (dataAll sync t (dataSet sync t (p .progress .next) e p m .settings) l (dataSet sync t (p .progress .next) e p m .mem)))
     (record { settings = p; count = 0; mem = m })

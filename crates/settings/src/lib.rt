@@ -6,7 +6,6 @@ use registers::Command;
 use registers::Drawing;
 use registers::Progress;
 use registers::Transfer;
-use registers::Video;
 ghost use mathlib.Core.Path.{_≡_};
 ghost use Prim.Native.Nat.{_%_};
 ghost use lib.ListN.{drop};
@@ -23,7 +22,7 @@ ghost use Rattle.settings.specs.Settings.{
   settleAll,
 };
 
-// The registers that such entries set (of the video bytes ZOOM's alone), and the board, which they leave.
+// The registers that such entries set, and the board, which they leave.
 pub struct Settings {
     pub board: Board,
     pub cursor: Cursor,
@@ -31,7 +30,7 @@ pub struct Settings {
     pub drawing: Drawing,
     pub op: Operation,
     pub ram: [u8; 16],
-    pub video: Video,
+    pub zoom: u8,
     pub progress: Progress,
 }
 
@@ -89,14 +88,21 @@ fn first_or(i: u8, v: u8, held: u8) -> u8
 }
 
 // WDAT's bytes, up to the next command.
-fn data_taken(from: Settings, t: Transfer, entries: &[u16], k: usize, mem: &mut [u16]) -> Settled
+fn data_taken(
+    sync: u8,
+    from: Settings,
+    t: Transfer,
+    entries: &[u16],
+    k: usize,
+    mem: &mut [u16],
+) -> Settled
     requires { ⌜ from .progress .command ≡ Wdat t ⌝ }
-    ensures { λ q. ⌜ settled q (now (mem .exit)) ≡ dataAll t from (drop k (now (entries .entry))) (now (mem .entry)) ⌝ }
+    ensures { λ q. ⌜ settled q (now (mem .exit)) ≡ dataAll sync t from (drop k (now (entries .entry))) (now (mem .entry)) ⌝ }
 {
     let board = from.board;
     let wiring = board.wiring;
     let op = from.op;
-    let mapped = wdat::bit_mapped(from.video, from.drawing.gd);
+    let mapped = wdat::bit_mapped(sync, from.drawing.gd);
     let dir = from.drawing.dir;
     let pitch = from.pitch;
     let mut c = from.cursor;
@@ -182,9 +188,10 @@ fn begin(p: Settings, byte: u8) -> Settings
     }
 }
 
-// The entries from place k on, up to the first that does more than set registers. WDAT's bytes have a loop of their own.
-pub fn settle(from: Settings, entries: &[u16], k: usize, mem: &mut [u16]) -> Settled
-    ensures { λ q. ⌜ settled q (now (mem .exit)) ≡ settleAll from (drop k (now (entries .entry))) (now (mem .entry)) ⌝ }
+// The entries from place k on, up to the first that does more than set registers; sync byte 1 decides how WDAT writes. Its bytes have a
+// loop of their own.
+pub fn settle(sync: u8, from: Settings, entries: &[u16], k: usize, mem: &mut [u16]) -> Settled
+    ensures { λ q. ⌜ settled q (now (mem .exit)) ≡ settleAll sync from (drop k (now (entries .entry))) (now (mem .entry)) ⌝ }
 {
     let mut p = from;
     let mut at = k;
@@ -207,11 +214,11 @@ pub fn settle(from: Settings, entries: &[u16], k: usize, mem: &mut [u16]) -> Set
                 Command::Curs => p.cursor = parameters::curs_byte(p.cursor, i, v),
                 Command::Mask => p.cursor = parameters::mask_byte(p.cursor, i, v),
                 Command::Pram => ram_put(&mut p.ram, i, v),
-                Command::Zoom => p.video.zoom = first_or(i, v, p.video.zoom),
+                Command::Zoom => p.zoom = first_or(i, v, p.zoom),
                 Command::Pitch => p.pitch = first_or(i, v, p.pitch),
                 Command::Wdat(t) => {
                     p.progress.next = i;
-                    let q = data_taken(p, t, entries, at, mem);
+                    let q = data_taken(sync, p, t, entries, at, mem);
                     p = q.settings;
                     at += q.count - 1;
                 }

@@ -5,14 +5,13 @@ use mathlib.Core.List.{List}
 use Prim.Native.Nat.{ℕ, zero, suc, _/_, _%_, _<_}
 use native.Mathlib.Omega.{arith}
 use lib.Dec.{eqb}
-use lib.ListN.{getD}
 use Rattle.dots.specs.Bit.{bit}
 use Rattle.dots.specs.Cycle.{cycled}
 use Rattle.registers.specs.declared.Transfer.{Transfer}
 use Rattle.registers.specs.declared.Registers.{Registers}
 use Rattle.registers.specs.Put.{putProgress}
 use Rattle.registers.specs.State.{state}
-use Rattle.wdat.specs.Wdat.{halfB, mappedBy, bitMappedB, setPattern, wdatProgress, setDone, wdatTaken}
+use Rattle.wdat.specs.Wdat.{halfB, mappedBy, bitMappedB, setPattern, firstSync, wdatProgress, setDone, wdatTaken}
 
 by-bits : (c g : ℕ) (gd : Bool) → c < 2 → g < 2 → (eqb c 0 && (eqb g 1 || gd)) ≡ mappedBy c g gd
 by-bits zero zero gd h k = refl
@@ -23,17 +22,16 @@ by-bits (suc zero) (suc zero) gd h k = refl
 by-bits (suc zero) (suc (suc g)) gd h k = absurd (omega arith)
 by-bits (suc (suc c)) g gd h k = absurd (omega arith)
 
-pub mapped-by : (sync : List ℕ) (gd : Bool)
-    → (eqb (getD sync 0 0 / 32 % 2) 0 && (eqb (getD sync 0 0 / 2 % 2) 1 || gd)) ≡ bitMappedB sync gd
+pub mapped-by : (sync : ℕ) (gd : Bool) → (eqb (sync / 32 % 2) 0 && (eqb (sync / 2 % 2) 1 || gd)) ≡ bitMappedB sync gd
 unfolding bitMappedB bit
-mapped-by sync gd = by-bits (getD sync 0 0 / 32 % 2) (getD sync 0 0 / 2 % 2) gd (omega arith) (omega arith)
+mapped-by sync gd = by-bits (sync / 32 % 2) (sync / 2 % 2) gd (omega arith) (omega arith)
 
 module _ (t : Transfer) (i v : ℕ) (r : Registers) (m : List ℕ) where
   pub wdat-half : {q : Registers} → halfB t i ≡ true → q ≡ putProgress r (wdatProgress t 1 v) → state q m ≡ wdatTaken t i v r m
   unfolding wdatTaken
   wdat-half h e = rw (h, e)
 
-  pub wdat-whole : {q : Registers} {b : Bool} {p : ℕ} {n : List ℕ} → halfB t i ≡ false → b ≡ bitMappedB (r .video .sync) (r .drawing .gd)
+  pub wdat-whole : {q : Registers} {b : Bool} {p : ℕ} {n : List ℕ} → halfB t i ≡ false → b ≡ bitMappedB (firstSync r) (r .drawing .gd)
       → p ≡ setPattern b t (r .progress .low) v → n ≡ cycled (r .board .wiring) (r .op) p (r .cursor) m → q ≡ setDone t r
       → state q n ≡ wdatTaken t i v r m
   unfolding wdatTaken

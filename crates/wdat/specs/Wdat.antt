@@ -26,9 +26,9 @@ halfB High i = false
 abbrev pub mappedBy : ℕ → ℕ → Bool → Bool
 mappedBy C G GD = (eqb C 0 && eqb G 1) || (eqb C 0 && eqb G 0 && GD)
 
--- .. sync byte 1 being the first of the eight, 002's P1: 0 0 C F I D G S
-unfoldable pub bitMappedB : List ℕ → Bool → Bool
-bitMappedB sync gd = mappedBy (bit 5 (getD sync 0 0)) (bit 1 (getD sync 0 0)) gd
+-- .. by sync byte 1, 002's P1: 0 0 C F I D G S
+unfoldable pub bitMappedB : ℕ → Bool → Bool
+bitMappedB sync gd = mappedBy (bit 5 sync) (bit 1 sync) gd
 
 -- there "only the lowest bit of the parameter counts": "bit 0 of a word's low byte fills all sixteen pattern bits; bit 0 of a single byte
 -- fills that byte, the other being zero."
@@ -47,6 +47,10 @@ wdatPattern High low v = 256 * v
 abbrev pub setPattern : Bool → Transfer → ℕ → ℕ → ℕ
 setPattern mapped t low v = cond mapped (bitMappedPattern t low v) (wdatPattern t low v)
 
+-- "sync byte 1", the first of the eight
+abbrev pub firstSync : Registers → ℕ
+firstSync r = getD (r .video .sync) 0 0
+
 abbrev pub wdatProgress : Transfer → ℕ → ℕ → Progress
 wdatProgress t i low = record { command = Wdat t; next = i; low = low }
 
@@ -59,4 +63,4 @@ unfoldable pub wdatTaken : Transfer → ℕ → ℕ → Registers → List ℕ �
 wdatTaken t i v r m =
     cond (halfB t i) (state (putProgress r (wdatProgress t 1 v)) m)
     (state (setDone t r)
-    (cycled (r .board .wiring) (r .op) (setPattern (bitMappedB (r .video .sync) (r .drawing .gd)) t (r .progress .low) v) (r .cursor) m))
+    (cycled (r .board .wiring) (r .op) (setPattern (bitMappedB (firstSync r) (r .drawing .gd)) t (r .progress .low) v) (r .cursor) m))

@@ -3,7 +3,6 @@ use registers::Command;
 use registers::Progress;
 use registers::Registers;
 use registers::Transfer;
-use registers::Video;
 ghost use mathlib.Core.Path.{_≡_};
 ghost use Rattle.registers.specs.Put.{putProgress};
 ghost use Rattle.registers.specs.State.{state};
@@ -22,12 +21,10 @@ pub fn half(t: Transfer, i: u8) -> bool
 }
 
 // Bit-mapped work, by C and G of sync byte 1 and by GD.
-pub fn bit_mapped(video: Video, gd: bool) -> bool
-    ensures { λ b. ⌜ b ≡ bitMappedB (video .sync) gd ⌝ }
+pub fn bit_mapped(sync: u8, gd: bool) -> bool
+    ensures { λ b. ⌜ b ≡ bitMappedB sync gd ⌝ }
 {
-    let sync = video.sync;
-    let first = sync[0];
-    (first / 32 % 2 == 0) & ((first / 2 % 2 == 1) | gd)
+    (sync / 32 % 2 == 0) & ((sync / 2 % 2 == 1) | gd)
 }
 
 // Bit 0 fills the pattern of a word, or its byte.
@@ -96,7 +93,9 @@ pub fn wdat_taken(r: Registers, t: Transfer, i: u8, v: u8, mem: &mut [u16]) -> R
     let board = r.board;
     let wiring = board.wiring;
     let op = r.op;
-    let mapped = bit_mapped(r.video, r.drawing.gd);
+    let sync = r.video.sync;
+    let first = sync[0];
+    let mapped = bit_mapped(first, r.drawing.gd);
     dots::cycle(
         mem,
         wiring,

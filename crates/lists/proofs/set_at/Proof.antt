@@ -4,6 +4,9 @@ use borrow.Author.Needs.{needs}
 use Rattle.lists.proofs.set_at.Statement.{statement}
 use Rattle.lists.proofs.set_at.Tie as tie
 
+array-read-first : tie.Need-array-read-first
+array-read-first c = search needs
+
 settings-of-requires : tie.Need-settings-of-requires
 settings-of-requires c κs = search needs
 
@@ -27,4 +30,4 @@ returns-2 c = sets-nothing _ _ _ (c .before .at-once .ensures) (c .if1 .left) (c
 pub set-at-spec : {M : Type 1} → statement M
 set-at-spec =
     tie.close
-    (tie.spec settings-of-requires at-once-requires settle-requires same-length returns returns-2)
+    (tie.spec array-read-first settings-of-requires at-once-requires settle-requires same-length returns returns-2)

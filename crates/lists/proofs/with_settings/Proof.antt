@@ -7,7 +7,7 @@ no-entries-requires : tie.Need-no-entries-requires
 no-entries-requires c κs = search needs
 
 returns : tie.Need-returns
-returns c = rw (c .before .no-entries .ensures)
+returns c = rw (c .before .before .no-entries .ensures)
 
 pub with-settings-spec : {M : Type 1} → statement M
 with-settings-spec = tie.close (tie.spec no-entries-requires returns)

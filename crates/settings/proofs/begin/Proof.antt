@@ -25,29 +25,28 @@ operation-of-requires c κs = search needs
 
 returns : tie.Need-returns
 returns c =
-    settled-by _ (c .before .before .before .before .before .before .before .before .before .args .p)
-    (c .before .before .before .before .before .before .before .before .command-of .ensures)
-    (c .before .before .before .before .before .enum-told .given .1)
-    (rw (c .before .before .before .before .refresh .ensures, c .before .before .before .before .before .before .before .first-of .ensures))
+    settled-by _ (c .before .before .before .before .before .before .before .before .args .p)
+    (c .before .before .before .before .before .before .before .command-of .ensures)
+    (c .before .before .before .before .enum-told .given .1)
+    (rw (c .before .before .before .refresh .ensures, c .before .before .before .before .before .before .first-of .ensures))
 
 returns-2 : tie.Need-returns-2
 returns-2 c =
-    settled-by _ (c .before .before .before .before .before .before .before .before .before .before .args .p)
-    (c .before .before .before .before .before .before .before .before .before .command-of .ensures)
-    (c .before .before .before .before .before .before .enum-told2 .given .1)
+    settled-by _ (c .before .before .before .before .before .before .before .before .before .args .p)
+    (c .before .before .before .before .before .before .before .before .command-of .ensures)
+    (c .before .before .before .before .before .enum-told2 .given .1)
     (rw (
-      c .before .before .before .before .before .operation-of .ensures,
-      c .before .before .before .before .before .before .before .before .first-of .ensures,
+      c .before .before .before .before .operation-of .ensures,
+      c .before .before .before .before .before .before .before .first-of .ensures,
     ))
 
 returns-3 : tie.Need-returns-3
 returns-3 c =
-    settled-by _ (c .before .before .before .before .before .before .before .before .args .p)
-    (c .before .before .before .before .before .before .before .command-of .ensures) refl
-    (rw (c .before .before .before .before .before .before .first-of .ensures)
-    (nothing-set (c .before .before .before .before .before .before .before .command-of .result)
-    (c .before .before .before .before .before .match .keys3)
-    (c .before .before .before .before .before .before .before .before .args .byte) _))
+    settled-by _ (c .before .before .before .before .before .before .before .args .p)
+    (c .before .before .before .before .before .before .command-of .ensures) refl
+    (rw (c .before .before .before .before .before .first-of .ensures)
+    (nothing-set (c .before .before .before .before .before .before .command-of .result) (c .before .before .before .before .match .keys3)
+    (c .before .before .before .before .before .before .before .args .byte) _))
 
 pub begin-spec : {M : Type 1} → statement M
 begin-spec =

@@ -16,17 +16,18 @@ use Rattle.settings.proofs.DataLaws.{data-ended, data-broken}
 use Rattle.settings.proofs.data_taken.Statement.{statement}
 use Rattle.settings.proofs.data_taken.Tie as tie
 
-record Going (from : Settings) (t : Transfer) (entries : List ℕ) (k : ℕ) (mem₀ mem : List ℕ) (c : Cursor) (next low at : ℕ) : Type 0 where
+record Going (sync : ℕ) (from : Settings) (t : Transfer) (entries : List ℕ) (k : ℕ) (mem₀ mem : List ℕ) (c : Cursor)
+    (next low at : ℕ) : Type 0 where
   past : k ≤ at
   long : length mem ≡ length mem₀
-  rest : dataAll t from (drop k entries) mem₀ ≡ beyond (at - k) (dataAll t (within t from c next low) (drop at entries) mem)
+  rest : dataAll sync t from (drop k entries) mem₀ ≡ beyond (at - k) (dataAll sync t (within t from c next low) (drop at entries) mem)
 
 abbrev Inv-loop : tie.InvT-loop
-Inv-loop from t entries k mem₀ wiring op mapped dir pitch c₀ next₀ low₀ at₀ mem c next low at =
-    Going from t entries k mem₀ mem c next low at
+Inv-loop sync from t entries k mem₀ wiring op mapped dir pitch c₀ next₀ low₀ at₀ mem c next low at =
+    Going sync from t entries k mem₀ mem c next low at
 
 abbrev μ-loop : tie.MeasureT-loop
-μ-loop from t entries k mem₀ wiring op mapped dir pitch c₀ next₀ low₀ at₀ mem c next low at = length entries - at
+μ-loop sync from t entries k mem₀ wiring op mapped dir pitch c₀ next₀ low₀ at₀ mem c next low at = length entries - at
 
 bit-mapped-requires : tie.Need-bit-mapped-requires Inv-loop μ-loop
 bit-mapped-requires c κs = search needs
@@ -38,7 +39,7 @@ loop-holds c =
       past = omega arith;
       long = refl;
       rest = none-before (a .k) _
-          ∙ ap (λ (p : Settings). beyond (a .k - a .k) (dataAll (a .t) p (drop (a .k) (a .entries .now)) (a .mem .now)))
+          ∙ ap (λ (p : Settings). beyond (a .k - a .k) (dataAll (a .sync) (a .t) p (drop (a .k) (a .entries .now)) (a .mem .now)))
           (in-progress _ (a .from) (c .before .before .before .before .before .pre) _ _ _);
     }
 
@@ -81,8 +82,8 @@ loop-again c =
       rest = l .inv .rest
           ∙ ap (beyond (l .at - a .k))
           (⊎-elim
-          (λ w. half-sent _ (a .from) _ _ _ _ _ _ more byte (sym (c .before .half .ensures) ∙ w .0 .taken) (w .1) (w .2) (w .3) (w .4))
-          (λ w. completed _ (a .from) _ _ _ _ _ _ more byte _ (sym (c .before .half .ensures) ∙ w .0 .left)
+          (λ w. half-sent _ (a .from) _ _ _ _ _ _ _ more byte (sym (c .before .half .ensures) ∙ w .0 .taken) (w .1) (w .2) (w .3) (w .4))
+          (λ w. completed _ (a .from) _ _ _ _ _ _ _ more byte _ (sym (c .before .half .ensures) ∙ w .0 .left)
           (c .before .before .before .before .before .before .before .bit-mapped .ensures) (w .2 .ensures)
           (w .7 ∙ w .3 .ensures)
           (w .8 ∙ w .6 .ensures) (w .9) (w .10))
@@ -103,7 +104,7 @@ returns c =
     ap (λ (p : Settings). settled (record { settings = p; count = l .at - a .k }) (l .mem))
     (in-progress _ (a .from) (c .before .before .before .before .before .before .before .before .before .pre) _ _ _)
     ∙ all-before _ (within (a .t) (a .from) (l .c) (l .next) (l .low)) _
-    (⊎-elim (λ w. data-ended _ (a .from) _ _ _ _ _ _ (w .left)) (λ w. data-broken _ (a .from) _ _ _ _ _ _ (w .0 .taken) (w .2 .taken))
+    (⊎-elim (λ w. data-ended _ (a .from) _ _ _ _ _ _ _ (w .left)) (λ w. data-broken _ (a .from) _ _ _ _ _ _ _ (w .0 .taken) (w .2 .taken))
     (c .before .before .loop-test .came))
     ∙ sym (l .inv .rest)
 

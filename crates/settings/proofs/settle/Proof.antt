@@ -20,16 +20,16 @@ use borrow.Author.Tests.{not-true, not-false}
 use Rattle.settings.proofs.settle.Statement.{statement}
 use Rattle.settings.proofs.settle.Tie as tie
 
-record Going (from : Settings) (entries : List ℕ) (k : ℕ) (mem₀ mem : List ℕ) (p : Settings) (at : ℕ) : Type 0 where
+record Going (sync : ℕ) (from : Settings) (entries : List ℕ) (k : ℕ) (mem₀ mem : List ℕ) (p : Settings) (at : ℕ) : Type 0 where
   past : k ≤ at
   long : length mem ≡ length mem₀
-  rest : settleAll from (drop k entries) mem₀ ≡ beyond (at - k) (settleAll p (drop at entries) mem)
+  rest : settleAll sync from (drop k entries) mem₀ ≡ beyond (at - k) (settleAll sync p (drop at entries) mem)
 
 abbrev Inv-loop : tie.InvT-loop
-Inv-loop entries k mem₀ p₀ at₀ mem p at = Going p₀ entries k mem₀ mem p at
+Inv-loop sync entries k mem₀ p₀ at₀ mem p at = Going sync p₀ entries k mem₀ mem p at
 
 abbrev μ-loop : tie.MeasureT-loop
-μ-loop entries k mem₀ p₀ at₀ mem p at = length entries - at
+μ-loop sync entries k mem₀ p₀ at₀ mem p at = length entries - at
 
 loop-holds : tie.Need-loop-holds Inv-loop μ-loop
 loop-holds c = record { past = omega arith; long = refl; rest = none-before _ _ }
@@ -107,7 +107,7 @@ counted : (c : tie.After-struct-known Inv-loop μ-loop)
     × (begun c .before .loop .at + c .before .before .before .before .data-taken .result .count ≤ length
     (begun c .before .before .before .before .args .entries .now))
 counted c =
-    data-counted _ _ (begun c .before .loop .p) _ (begun c .loop-test .taken) _ (chosen c .if2 .left)
+    data-counted _ _ _ (begun c .before .loop .p) _ (begun c .loop-test .taken) _ (chosen c .if2 .left)
     (c .before .before .before .before .data-taken .ensures)
 
 sub-at : tie.Need-sub-at Inv-loop μ-loop
@@ -120,7 +120,8 @@ add-at c =
 
 -- what a turn does, by the way that it went
 turn : (c : tie.Joined2 Inv-loop μ-loop)
-    → Onward (c .before .before .before .before .before .before .before .before .before .args .entries .now)
+    → Onward (c .before .before .before .before .before .before .before .before .before .args .sync)
+    (c .before .before .before .before .before .before .before .before .before .args .entries .now)
     (c .before .before .before .before .before .before .loop .at) (c .before .before .before .before .before .before .loop .p)
     (c .before .before .before .before .before .before .loop .mem)
     (c .if2 .at) (c .if2 .p) (c .if2 .mem)
@@ -128,20 +129,21 @@ turn c =
     let p = c .before .before .before .before .before .before .loop .p in
     let more = c .before .before .before .before .before .loop-test .taken in
     let ok = sym (c .before .before .settable .ensures) ∙ not-false _ (c .before .if1 .left) in
-    ⊎-elim (λ w. by-command _ _ _ _ more ok (w .4) (w .0 .taken) (w .1 .ensures) (w .2) (w .3))
-    (⊎-elim (λ w. by-parameter _ _ _ _ more ok (w .9) (w .0 .left) (w .4 .given .1) (w .1 .ensures) (w .7)
+    ⊎-elim (λ w. by-command _ _ _ _ _ more ok (w .4) (w .0 .taken) (w .1 .ensures) (w .2) (w .3))
+    (⊎-elim (λ w. by-parameter _ _ _ _ _ more ok (w .9) (w .0 .left) (w .4 .given .1) (w .1 .ensures) (w .7)
     (w .8 ∙ ap (setDrawing (counting p (w .1 .result))) (w .6 .ensures)) refl)
-    (⊎-elim (λ w. by-parameter _ _ _ _ more ok (w .9) (w .0 .left) (w .4 .given .1) (w .1 .ensures) (w .7)
+    (⊎-elim (λ w. by-parameter _ _ _ _ _ more ok (w .9) (w .0 .left) (w .4 .given .1) (w .1 .ensures) (w .7)
     (w .8 ∙ ap (setCursor (counting p (w .1 .result))) (w .6 .ensures)) refl)
-    (⊎-elim (λ w. by-parameter _ _ _ _ more ok (w .9) (w .0 .left) (w .4 .given .1) (w .1 .ensures) (w .7)
+    (⊎-elim (λ w. by-parameter _ _ _ _ _ more ok (w .9) (w .0 .left) (w .4 .given .1) (w .1 .ensures) (w .7)
     (w .8 ∙ ap (setCursor (counting p (w .1 .result))) (w .6 .ensures)) refl)
-    (⊎-elim (λ w. by-parameter _ _ _ _ more ok (w .9) (w .0 .left) (w .4 .given .1) (w .1 .ensures) (w .7)
+    (⊎-elim (λ w. by-parameter _ _ _ _ _ more ok (w .9) (w .0 .left) (w .4 .given .1) (w .1 .ensures) (w .7)
     (w .8 ∙ ap (setRam (counting p (w .1 .result))) (w .6 .ensures)) refl)
-    (⊎-elim (λ w. by-parameter _ _ _ _ more ok (w .9) (w .0 .left) (w .4 .given .1) (w .1 .ensures) (w .7)
-    (w .8 ∙ ap (setZoom (counting p (w .1 .result))) (w .5 .ensures)) refl)
-    (⊎-elim (λ w. by-parameter _ _ _ _ more ok (w .8) (w .0 .left) (w .4 .given .1) (w .1 .ensures) (w .6)
+    (⊎-elim (λ w. by-parameter _ _ _ _ _ more ok (w .8) (w .0 .left) (w .4 .given .1) (w .1 .ensures) (w .6)
+    (w .7 ∙ ap (setZoom (counting p (w .1 .result))) (w .5 .ensures)) refl)
+    (⊎-elim (λ w. by-parameter _ _ _ _ _ more ok (w .8) (w .0 .left) (w .4 .given .1) (w .1 .ensures) (w .6)
     (w .7 ∙ ap (setPitch (counting p (w .1 .result))) (w .5 .ensures)) refl)
-    (⊎-elim (λ w. by-data _ _ _ _ more (w .4 .given .0 .0) (w .0 .left) (w .4 .given .1) (w .8 .ensures) (w .8 .kept .1 .1 .1 .1 .0) (w .13)
+    (⊎-elim (λ w. by-data _ _ _ _ _ more (w .4 .given .0 .0) (w .0 .left) (w .4 .given .1) (w .8 .ensures) (w .8 .kept .1 .1 .1 .1 .1 .0)
+        (w .13)
     (w .14) (w .15))
     (λ w. absurd (false-true (not-setting (p .progress .command) (w .3 .keys8) ∙ settable-parameter _ _ (w .0 .left) ok))))))))))
     (c .if2 .came)
@@ -159,11 +161,11 @@ loop-again c =
     record {
       past = omega (arith, l .inv .past, o .past);
       long = o .long ∙ l .inv .long;
-      rest = l .inv .rest ∙ turned _ _ _ _ _ _ _ _ (l .inv .past) o;
+      rest = l .inv .rest ∙ turned _ _ _ _ _ _ _ _ _ (l .inv .past) o;
     }
 
-sub-t39 : tie.Need-sub-t39 Inv-loop μ-loop
-sub-t39 c = omega (arith, c .before .loop .inv .past)
+sub-t40 : tie.Need-sub-t40 Inv-loop μ-loop
+sub-t40 c = omega (arith, c .before .loop .inv .past)
 
 same-length : tie.Need-same-length Inv-loop μ-loop
 same-length c = c .before .loop .inv .long
@@ -172,8 +174,8 @@ returns : tie.Need-returns Inv-loop μ-loop
 returns c =
     let l = c .before .loop in
     all-before _ (l .p) _
-    (⊎-elim (λ w. settle-past _ _ (l .p) _ (w .left))
-    (λ w. settle-ended _ _ (l .p) _ (w .0 .taken) (sym (w .3 .ensures) ∙ not-true _ (w .4 .taken))) (c .loop-test .came))
+    (⊎-elim (λ w. settle-past _ _ _ (l .p) _ (w .left))
+    (λ w. settle-ended _ _ _ (l .p) _ (w .0 .taken) (sym (w .3 .ensures) ∙ not-true _ (w .4 .taken))) (c .loop-test .came))
     ∙ sym (l .inv .rest)
 
 pub settle-spec : {M : Type 1} → statement M
@@ -208,6 +210,6 @@ settle-spec =
     add-at-2
     loop-less
     loop-again
-    sub-t39
+    sub-t40
     same-length
     returns)

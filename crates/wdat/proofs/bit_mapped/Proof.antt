@@ -1,14 +1,10 @@
 -- `bit_mapped` is the definition, by one test of C.
 use Rattle.wdat.proofs.WdatLaws.{mapped-by}
-use borrow.Author.Needs.{needs}
 use Rattle.wdat.proofs.bit_mapped.Statement.{statement}
 use Rattle.wdat.proofs.bit_mapped.Tie as tie
-
-array-read-first : tie.Need-array-read-first
-array-read-first c = search needs
 
 returns : tie.Need-returns
 returns c = mapped-by _ _
 
 pub bit-mapped-spec : {M : Type 1} → statement M
-bit-mapped-spec = tie.close (tie.spec array-read-first returns)
+bit-mapped-spec = tie.close (tie.spec returns)

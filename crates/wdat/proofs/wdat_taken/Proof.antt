@@ -14,6 +14,9 @@ place-requires c κs = search needs
 returns : tie.Need-returns
 returns c = wdat-half _ _ _ _ _ (sym (c .before .before .half .ensures) ∙ c .before .if1 .taken) (c .place .ensures)
 
+array-read-first : tie.Need-array-read-first
+array-read-first c = search needs
+
 bit-mapped-requires : tie.Need-bit-mapped-requires
 bit-mapped-requires c κs = search needs
 
@@ -31,8 +34,8 @@ same-length c = search needs
 
 returns-2 : tie.Need-returns-2
 returns-2 c =
-    wdat-whole _ _ _ _ _ (sym (c .before .before .before .before .before .before .before .before .before .half .ensures)
-    ∙ c .before .before .before .before .before .before .before .before .if1 .left)
+    wdat-whole _ _ _ _ _ (sym (c .before .before .before .before .before .before .before .before .before .before .half .ensures)
+    ∙ c .before .before .before .before .before .before .before .before .before .if1 .left)
     (c .before .before .before .before .before .before .bit-mapped .ensures) (c .before .before .before .before .set-pattern .ensures)
     (c .before .before .before .cycle .ensures) (c .set-done .ensures)
 
@@ -43,6 +46,7 @@ wdat-taken-spec =
     half-requires
     place-requires
     returns
+    array-read-first
     bit-mapped-requires
     set-pattern-requires
     cycle-requires
