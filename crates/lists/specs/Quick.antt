@@ -35,7 +35,7 @@ noneSet s = record { settings = settingsOf (s .regs); count = 0; mem = s .mem }
 unfoldable pub setAt : ℕ → List ℕ → State → Settlement
 setAt e l s =
     cond (atOnceB (s .regs .mode) (s .regs .work) (s .regs .buffer .count) e)
-        (settleAll (firstSync (s .regs)) (settingsOf (s .regs)) l (s .mem)) (noneSet s)
+    (settleAll (firstSync (s .regs)) (settingsOf (s .regs)) l (s .mem)) (noneSet s)
 
 -- one entry, taken at once, else by its port
 unfoldable pub firstSent : ℕ → State → ListOutcome

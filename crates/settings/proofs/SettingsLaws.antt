@@ -127,6 +127,6 @@ module _ (r : Registers) where
 
     pub entry-setting : settableB (p .progress .command) e ≡ true
         → entryTaken e (state (putSettings r p) m)
-            ≡ state (putSettings r (settingTaken (firstSync r) e p m .settings)) (settingTaken (firstSync r) e p m .mem)
+        ≡ state (putSettings r (settingTaken (firstSync r) e p m .settings)) (settingTaken (firstSync r) e p m .mem)
     unfolding settableB
     entry-setting s = entry-by (ltb e 256) refl s

@@ -156,7 +156,7 @@ module _ (sync : ℕ) (entries : List ℕ) (at : ℕ) (p : Settings) (m : List �
       -- c is the command in progress
       pub by-parameter : {c : Command} {next : ℕ} {q : Settings} → e < 256 → p .progress .command ≡ c → next ≡ nextOf (p .progress .next)
           → m′ ≡ m → p′ ≡ q → taken q m ≡ parameterSet sync c (p .progress .next) (e % 256) (counting p next) m
-              → Onward sync entries at p m at′ p′ m′
+          → Onward sync entries at p m at′ p′ m′
       unfolding settingTaken
       by-parameter h c n f g s =
           one-on f

@@ -176,8 +176,8 @@ oneMore s = record { settings = s .settings; count = suc (s .count); mem = s .me
 unfoldable pub settleAll : ℕ → Settings → List ℕ → List ℕ → Settlement
 settleAll sync p [] m = record { settings = p; count = 0; mem = m }
 settleAll sync p (e ∷ l) m =
-    cond (settableB (p .progress .command) e) (oneMore
-        (settleAll sync (settingTaken sync e p m .settings) l (settingTaken sync e p m .mem)))
+    cond (settableB (p .progress .command) e)
+    (oneMore (settleAll sync (settingTaken sync e p m .settings) l (settingTaken sync e p m .mem)))
     (record { settings = p; count = 0; mem = m })
 
 -- of them WDAT's bytes, up to the next command

@@ -96,12 +96,7 @@ pub fn wdat_taken(r: Registers, t: Transfer, i: u8, v: u8, mem: &mut [u16]) -> R
     let sync = r.video.sync;
     let first = sync[0];
     let mapped = bit_mapped(first, r.drawing.gd);
-    dots::cycle(
-        mem,
-        wiring,
-        r.cursor,
-        set_pattern(mapped, t, r.progress.low, v),
-        op,
-    );
+    let pattern = set_pattern(mapped, t, r.progress.low, v);
+    dots::cycle(mem, wiring, r.cursor, pattern, op);
     set_done(r, t)
 }

@@ -143,7 +143,7 @@ turn c =
     (⊎-elim (λ w. by-parameter _ _ _ _ _ more ok (w .8) (w .0 .left) (w .4 .given .1) (w .1 .ensures) (w .6)
     (w .7 ∙ ap (setPitch (counting p (w .1 .result))) (w .5 .ensures)) refl)
     (⊎-elim (λ w. by-data _ _ _ _ _ more (w .4 .given .0 .0) (w .0 .left) (w .4 .given .1) (w .8 .ensures) (w .8 .kept .1 .1 .1 .1 .1 .0)
-        (w .13)
+    (w .13)
     (w .14) (w .15))
     (λ w. absurd (false-true (not-setting (p .progress .command) (w .3 .keys8) ∙ settable-parameter _ _ (w .0 .left) ok))))))))))
     (c .if2 .came)
