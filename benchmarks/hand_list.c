@@ -8,11 +8,10 @@
 
 /* Whole words of a WDAT, from the list to the memory; what is returned is how many entries they were. */
 static inline __attribute__((always_inline)) size_t words_with(struct hand *h, const uint16_t *entries, size_t count, uint16_t *mem,
-                                                               uint32_t fold, uint8_t op) {
+                                                               uint32_t fold, uint8_t op, bool mapped) {
     const struct step s = step_along(h->dir, h->pitch);
     const uint32_t move = s.lines + (uint32_t)s.side;
     const uint16_t mask = h->mask;
-    const bool mapped = bit_mapped(h);
     uint32_t ead = h->ead;
     size_t i = 0;
     for (; count - i >= 2 && (entries[i] | entries[i + 1]) < 256; i += 2) {
@@ -25,11 +24,15 @@ static inline __attribute__((always_inline)) size_t words_with(struct hand *h, c
 }
 
 static size_t take_words(struct hand *h, const uint16_t *entries, size_t count, uint16_t *mem, uint32_t fold) {
-    switch (h->op) {
-    case 0: return words_with(h, entries, count, mem, fold, 0);
-    case 1: return words_with(h, entries, count, mem, fold, 1);
-    case 2: return words_with(h, entries, count, mem, fold, 2);
-    default: return words_with(h, entries, count, mem, fold, 3);
+    switch (h->op | bit_mapped(h) << 2) {
+    case 0: return words_with(h, entries, count, mem, fold, 0, false);
+    case 1: return words_with(h, entries, count, mem, fold, 1, false);
+    case 2: return words_with(h, entries, count, mem, fold, 2, false);
+    case 3: return words_with(h, entries, count, mem, fold, 3, false);
+    case 4: return words_with(h, entries, count, mem, fold, 0, true);
+    case 5: return words_with(h, entries, count, mem, fold, 1, true);
+    case 6: return words_with(h, entries, count, mem, fold, 2, true);
+    default: return words_with(h, entries, count, mem, fold, 3, true);
     }
 }
 
