@@ -37,7 +37,7 @@ returns-2 c =
     wdat-whole _ _ _ _ _ (sym (c .before .before .before .before .before .before .before .before .before .before .half .ensures)
     ∙ c .before .before .before .before .before .before .before .before .before .if1 .left)
     (c .before .before .before .before .before .before .bit-mapped .ensures)
-        (c .before .before .before .before .before .set-pattern .ensures)
+    (c .before .before .before .before .before .set-pattern .ensures)
     (c .before .before .before .cycle .ensures) (c .set-done .ensures)
 
 pub wdat-taken-spec : {M : Type 1} → statement M
