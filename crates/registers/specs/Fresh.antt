@@ -40,5 +40,6 @@ freshSet =
       buffer = emptyBuffer;
       progress = noCommand;
       work = work.Idle;
+      remaining = 0;
       board = record { wiring = wiring.Folded };
     }

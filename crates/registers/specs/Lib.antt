@@ -2,6 +2,7 @@ pub mod Width
 pub mod Put
 pub mod Fresh
 pub mod Size
+pub mod Left
 pub mod Sound
 pub mod Buffer
 pub mod State

@@ -28,6 +28,7 @@ putCursor r x =
       buffer = r .buffer;
       progress = r .progress;
       work = r .work;
+      remaining = r .remaining;
       board = r .board;
     }
 
@@ -45,6 +46,7 @@ putPitch r x =
       buffer = r .buffer;
       progress = r .progress;
       work = r .work;
+      remaining = r .remaining;
       board = r .board;
     }
 
@@ -62,6 +64,7 @@ putDrawing r x =
       buffer = r .buffer;
       progress = r .progress;
       work = r .work;
+      remaining = r .remaining;
       board = r .board;
     }
 
@@ -79,6 +82,7 @@ putOp r x =
       buffer = r .buffer;
       progress = r .progress;
       work = r .work;
+      remaining = r .remaining;
       board = r .board;
     }
 
@@ -96,6 +100,7 @@ putRam r x =
       buffer = r .buffer;
       progress = r .progress;
       work = r .work;
+      remaining = r .remaining;
       board = r .board;
     }
 
@@ -113,6 +118,7 @@ putVideo r x =
       buffer = r .buffer;
       progress = r .progress;
       work = r .work;
+      remaining = r .remaining;
       board = r .board;
     }
 
@@ -130,6 +136,7 @@ putPen r x =
       buffer = r .buffer;
       progress = r .progress;
       work = r .work;
+      remaining = r .remaining;
       board = r .board;
     }
 
@@ -147,6 +154,7 @@ putMode r x =
       buffer = r .buffer;
       progress = r .progress;
       work = r .work;
+      remaining = r .remaining;
       board = r .board;
     }
 
@@ -164,6 +172,7 @@ putBuffer r x =
       buffer = x;
       progress = r .progress;
       work = r .work;
+      remaining = r .remaining;
       board = r .board;
     }
 
@@ -181,6 +190,7 @@ putProgress r x =
       buffer = r .buffer;
       progress = x;
       work = r .work;
+      remaining = r .remaining;
       board = r .board;
     }
 
@@ -198,6 +208,25 @@ putWork r x =
       buffer = r .buffer;
       progress = r .progress;
       work = x;
+      remaining = r .remaining;
+      board = r .board;
+    }
+
+abbrev pub putRemaining : Registers → ℕ → Registers
+putRemaining r x =
+    record {
+      cursor = r .cursor;
+      pitch = r .pitch;
+      drawing = r .drawing;
+      op = r .op;
+      ram = r .ram;
+      video = r .video;
+      pen = r .pen;
+      mode = r .mode;
+      buffer = r .buffer;
+      progress = r .progress;
+      work = r .work;
+      remaining = x;
       board = r .board;
     }
 
@@ -215,6 +244,7 @@ putBoard r x =
       buffer = r .buffer;
       progress = r .progress;
       work = r .work;
+      remaining = r .remaining;
       board = x;
     }
 

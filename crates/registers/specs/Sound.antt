@@ -1,9 +1,10 @@
 -- 01, Numbers: "A sound register set has every field within its width, at most 16 buffered entries, the place reached
--- inside its figure or read, a figure in progress only in write mode and a read only in read mode."
+-- inside its figure or read, a figure in progress only in write mode and a read only in read mode." 02, M-103: "a set whose count is
+-- false is unsound (1)."
 use Prim.Native.Nat.{ℕ}
 use mathlib.Core.Bool.{Bool, true, false, not, _&&_}
 use mathlib.Core.List.{List, [], _∷_}
-use lib.Dec.{ltb, leb}
+use lib.Dec.{eqb, ltb, leb}
 use lib.ListN.{take}
 use Rattle.dots.specs.declared.Cursor.{Cursor}
 use Rattle.dots.specs.Step.{addresses}
@@ -19,6 +20,7 @@ use Rattle.registers.specs.declared.Progress.{Progress}
 use Rattle.registers.specs.declared.Registers.{Registers}
 use Rattle.registers.specs.Width.{kinds, directions, fourteenBits, places, commandMark, entryEnd, parameters}
 use Rattle.registers.specs.Size.{dotsOf, arcCyclesOf, rowsOf, columnsOf}
+use Rattle.registers.specs.Left.{cyclesLeft}
 
 -- every number of the list is below n
 unfoldable pub allBelow : ℕ → List ℕ → Bool
@@ -77,7 +79,11 @@ workB m (Arc k a) = writeB m
 workB m (Character row column start) = writeB m
 workB m (Reading item t) = not (writeB m)
 
+-- 02, M-103: the count "equals, at all times, the cycles still to come by the figure's definition"
+abbrev pub countB : Registers → Bool
+countB r = eqb (r .remaining) (cyclesLeft (r .drawing) (r .video .zoom) (r .work))
+
 unfoldable pub soundB : Registers → Bool
 soundB r =
     cursorB (r .cursor) && drawingB (r .drawing) && penB (r .pen) && progressB (r .progress) && bufferB (r .mode) (r .buffer)
-    && placeB (r .drawing) (r .video .zoom) (r .work) && workB (r .mode) (r .work)
+    && placeB (r .drawing) (r .video .zoom) (r .work) && workB (r .mode) (r .work) && countB r

@@ -3,10 +3,12 @@ use dots::Cursor;
 use dots::Operation;
 use dots::Wiring;
 ghost use mathlib.Core.Path.{_≡_};
+ghost use Prim.Native.Nat.{_-_};
 ghost use lib.ListN.{take};
 ghost use Rattle.registers.specs.Fresh.{freshSet};
 ghost use Rattle.registers.specs.Buffer.{pushed, oldest, popped};
 ghost use Rattle.registers.specs.Size.{factorOf, dotsOf, arcCyclesOf, rowsOf, columnsOf};
+ghost use Rattle.registers.specs.Left.{characterLeft, cyclesLeft};
 ghost use Rattle.registers.specs.declared.Mode.the-variants.{Read};
 ghost use Rattle.registers.specs.Sound.{
   allBelow,
@@ -173,6 +175,8 @@ pub struct Registers {
     pub buffer: Buffer,
     pub progress: Progress,
     pub work: Work,
+    // How many cycles the present figure still needs: kept, and 0 where none is in progress.
+    pub remaining: u64,
     pub board: Board,
 }
 
@@ -217,6 +221,7 @@ pub fn fresh() -> Registers
             low: 0,
         },
         work: Work::Idle,
+        remaining: 0,
         board: Board {
             wiring: Wiring::Folded,
         },
@@ -270,6 +275,45 @@ pub fn columns_of(f: Drawing, zoom: u8) -> u32
     ensures { λ n. ⌜ n ≡ columnsOf f zoom ⌝ }
 {
     f.d as u32 * factor_of(zoom)
+}
+
+// All but those done, or none.
+pub fn rest_of(all: u64, done: u64) -> u64
+    ensures { λ n. ⌜ n ≡ all - done ⌝ }
+{
+    if done < all {
+        return all - done;
+    }
+    0
+}
+
+// The dots of a character from this one on.
+fn character_left(f: Drawing, zoom: u8, row: u32, column: u32) -> u64
+    ensures { λ n. ⌜ n ≡ characterLeft f zoom row column ⌝ }
+{
+    let rows = rows_of(f, zoom) as u64;
+    let columns = columns_of(f, zoom) as u64;
+    rest_of(rows * columns, row as u64 * columns + column as u64)
+}
+
+// The cycles still to come of the figure in progress.
+pub fn cycles_left(f: Drawing, zoom: u8, w: Work) -> u64
+    ensures { λ n. ⌜ n ≡ cyclesLeft f zoom w ⌝ }
+{
+    match w {
+        Work::Idle => 0,
+        Work::Figure { dot, d: _ } => rest_of(dots_of(f) as u64, dot as u64),
+        Work::Arc { cycle, running: _ } => rest_of(arc_cycles_of(f) as u64, cycle as u64),
+        Work::Character {
+            row,
+            column,
+            start: _,
+        } => character_left(f, zoom, row, column),
+        Work::Reading {
+            item: _,
+            transfer: _,
+        } => 0,
+    }
 }
 
 pub fn cursor_fits(c: Cursor) -> bool
@@ -436,6 +480,7 @@ pub fn sound(r: Registers) -> bool
     let held = buffer_fits(mode, buffer);
     let place = place_fits(r.drawing, r.video.zoom, work);
     let kept = work_fits(mode, work);
+    let left = cycles_left(r.drawing, r.video.zoom, work);
     cursor
         & drawing
         & (r.pen.address < dots::ADDRESSES)
@@ -443,4 +488,5 @@ pub fn sound(r: Registers) -> bool
         & held
         & place
         & kept
+        & (r.remaining == left)
 }

@@ -19,14 +19,18 @@ place-fits-requires c κs = search needs
 work-fits-requires : tie.Need-work-fits-requires
 work-fits-requires c κs = search needs
 
+cycles-left-requires : tie.Need-cycles-left-requires
+cycles-left-requires c κs = search needs
+
 returns : tie.Need-returns
 unfolding soundB
 returns c = rw (
-  c .before .before .work-fits .ensures,
-  c .before .before .before .place-fits .ensures,
-  c .before .before .before .before .buffer-fits .ensures,
-  c .before .before .before .before .before .drawing-fits .ensures,
-  c .before .before .before .before .before .before .cursor-fits .ensures,
+  c .before .before .before .cycles-left .ensures,
+  c .before .before .before .before .work-fits .ensures,
+  c .before .before .before .before .before .place-fits .ensures,
+  c .before .before .before .before .before .before .buffer-fits .ensures,
+  c .before .before .before .before .before .before .before .drawing-fits .ensures,
+  c .before .before .before .before .before .before .before .before .cursor-fits .ensures,
 )
 
 pub sound-spec : {M : Type 1} → statement M
@@ -38,4 +42,5 @@ sound-spec =
     buffer-fits-requires
     place-fits-requires
     work-fits-requires
+    cycles-left-requires
     returns)
