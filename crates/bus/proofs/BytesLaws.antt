@@ -60,6 +60,7 @@ module _ (p : PlainRegisters) (s : plainFormB p ≡ true) where
               buffer = bufferPlain b;
               progress = e i .progress;
               work = e i .work;
+              remaining = e i .remaining;
               board = e i .board;
             };
       }

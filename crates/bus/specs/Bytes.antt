@@ -68,6 +68,7 @@ withBuffer p b =
       buffer = b;
       progress = p .progress;
       work = p .work;
+      remaining = p .remaining;
       board = p .board;
     }
 
@@ -95,6 +96,7 @@ resetPlain p =
       buffer = bufferPlain emptyBuffer;
       progress = record { command = 1; transfer = 0; next = 0; low = 0 };
       work = workPlain Idle;
+      remaining = 0;
       board = p .board;
     }
 
@@ -113,6 +115,7 @@ turnedPlain p e =
       buffer = queuedBuffer (bufferPlain emptyBuffer) e;
       progress = p .progress;
       work = workPlain Idle;
+      remaining = p .remaining;
       board = p .board;
     }
 

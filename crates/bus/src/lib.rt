@@ -118,6 +118,7 @@ fn reset_plain(p: PlainRegisters) -> PlainRegisters
     n.buffer = buffer;
     n.progress = progress;
     n.work = work;
+    n.remaining = 0;
     n
 }
 

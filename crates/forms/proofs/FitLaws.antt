@@ -3,7 +3,7 @@
 use mathlib.Core.Path.{_≡_, refl, sym, ap, _∙_}
 use mathlib.Core.Bool.{Bool, true, false, _&&_, and-false, and-assoc, and-comm}
 use lib.Dec.{ltb, leb}
-use Rattle.registers.specs.Sound.{cursorB, drawingB, bufferB, placeB, workB, soundB}
+use Rattle.registers.specs.Sound.{cursorB, drawingB, bufferB, placeB, workB, countB, soundB}
 use Rattle.plain.specs.declared.PlainRegisters.{PlainRegisters}
 use Rattle.plain.specs.Numbers.{modeOf}
 use Rattle.plain.specs.Parts.{cursorOf, drawingOf, bufferOf, workOf}
@@ -26,7 +26,7 @@ ordered a k w s b p =
 
 module _ (p : PlainRegisters) where
   abbrev inProgressB : Bool
-  inProgressB = workFormB (p .work) && placedB (drawingOf (p .drawing)) (p .video .zoom) (modeOf (p .mode)) (workOf (p .work))
+  inProgressB = workFormB (p .work) && placedB (drawingOf (p .drawing)) (p .video .zoom) (modeOf (p .mode)) (p .remaining) (workOf (p .work))
 
   abbrev commandB : Bool
   commandB = commandFormB (p .progress .command) (p .progress .transfer)
@@ -39,11 +39,13 @@ module _ (p : PlainRegisters) where
   all =
       let n = cursorB (cursorOf (p .cursor)) && drawingB (drawingOf (p .drawing)) && ltb (p .pen .address) 262144
       && leb (p .progress .next) 16 in
+      let place = placeB (drawingOf (p .drawing)) (p .video .zoom) (workOf (p .work)) in
+      let work = workB (modeOf (p .mode)) (workOf (p .work)) in
+      let count = countB (fromPlain p) in
       ap (λ (x : Bool). plainFormB p && x)
-      (and-assoc (n && heldB) (placeB (drawingOf (p .drawing)) (p .video .zoom) (workOf (p .work)))
-      (workB (modeOf (p .mode)) (workOf (p .work))))
+      (ap (λ (x : Bool). x && count) (and-assoc (n && heldB) place work) ∙ and-assoc (n && heldB) (place && work) count)
       ∙ ordered (bitsB p && ltb (p .op) 4 && ltb (p .mode) 2 && ltb (p .board .wiring) 2) commandB (workFormB (p .work)) n heldB
-      (placedB (drawingOf (p .drawing)) (p .video .zoom) (modeOf (p .mode)) (workOf (p .work)))
+      (placedB (drawingOf (p .drawing)) (p .video .zoom) (modeOf (p .mode)) (p .remaining) (workOf (p .work)))
 
   -- the four tests, each with what it found
   pub by-parts : {n k w b : Bool} → n ≡ numbersB p → k ≡ commandB → w ≡ inProgressB → b ≡ heldB

@@ -79,30 +79,31 @@ pub fn formed(p: PlainRegisters) -> bool
     bits & (p.op < numbers::OPERATIONS) & (p.mode < numbers::MODES) & wiring & command & work
 }
 
-// What is in progress is inside its figure or read, and of its mode.
-fn placed(f: Drawing, zoom: u8, m: Mode, work: Work) -> bool
-    ensures { λ t. ⌜ t ≡ placedB f zoom m work ⌝ }
+// What is in progress is inside its figure or read, and of its mode, and so many cycles of it are left.
+fn placed(f: Drawing, zoom: u8, m: Mode, left: u64, work: Work) -> bool
+    ensures { λ t. ⌜ t ≡ placedB f zoom m left work ⌝ }
 {
-    registers::place_fits(f, zoom, work) & registers::work_fits(m, work)
+    let inside = registers::place_fits(f, zoom, work) & registers::work_fits(m, work);
+    inside & (left == registers::cycles_left(f, zoom, work))
 }
 
 // Kind by kind: the fields that it has no use for are 0, and it is placed.
-fn nothing_fits(w: PlainWork) -> bool
-    ensures { λ t. ⌜ t ≡ nothingB w ⌝ }
+fn nothing_fits(w: PlainWork, left: u64) -> bool
+    ensures { λ t. ⌜ t ≡ nothingB w left ⌝ }
 {
-    no_figure(w) & no_arc(w) & no_character(w) & no_reading(w)
+    no_figure(w) & no_arc(w) & no_character(w) & no_reading(w) & (left == 0)
 }
 
-fn figure_fits(w: PlainWork, f: Drawing, zoom: u8, m: Mode) -> bool
-    ensures { λ t. ⌜ t ≡ figureB w f zoom m ⌝ }
+fn figure_fits(w: PlainWork, f: Drawing, zoom: u8, m: Mode, left: u64) -> bool
+    ensures { λ t. ⌜ t ≡ figureB w f zoom m left ⌝ }
 {
     let spare = no_arc(w) & no_character(w) & no_reading(w);
     let figure = Work::Figure { dot: w.dot, d: w.d };
-    spare & placed(f, zoom, m, figure)
+    spare & placed(f, zoom, m, left, figure)
 }
 
-fn character_fits(w: PlainWork, f: Drawing, zoom: u8, m: Mode) -> bool
-    ensures { λ t. ⌜ t ≡ characterB w f zoom m ⌝ }
+fn character_fits(w: PlainWork, f: Drawing, zoom: u8, m: Mode, left: u64) -> bool
+    ensures { λ t. ⌜ t ≡ characterB w f zoom m left ⌝ }
 {
     let spare = no_figure(w) & no_arc(w) & no_reading(w);
     let start = parts::cursor_of(w.start);
@@ -111,11 +112,11 @@ fn character_fits(w: PlainWork, f: Drawing, zoom: u8, m: Mode) -> bool
         column: w.column,
         start: start,
     };
-    spare & placed(f, zoom, m, character)
+    spare & placed(f, zoom, m, left, character)
 }
 
-fn read_fits(w: PlainWork, f: Drawing, zoom: u8, m: Mode) -> bool
-    ensures { λ t. ⌜ t ≡ readB w f zoom m ⌝ }
+fn read_fits(w: PlainWork, f: Drawing, zoom: u8, m: Mode, left: u64) -> bool
+    ensures { λ t. ⌜ t ≡ readB w f zoom m left ⌝ }
 {
     let spare = no_figure(w) & no_arc(w) & no_character(w) & (w.transfer < numbers::TRANSFERS);
     let transfer = numbers::transfer_of(w.transfer);
@@ -123,11 +124,11 @@ fn read_fits(w: PlainWork, f: Drawing, zoom: u8, m: Mode) -> bool
         item: w.item,
         transfer: transfer,
     };
-    spare & placed(f, zoom, m, read)
+    spare & placed(f, zoom, m, left, read)
 }
 
-fn arc_fits(w: PlainWork, f: Drawing, zoom: u8, m: Mode) -> bool
-    ensures { λ t. ⌜ t ≡ arcB w f zoom m ⌝ }
+fn arc_fits(w: PlainWork, f: Drawing, zoom: u8, m: Mode, left: u64) -> bool
+    ensures { λ t. ⌜ t ≡ arcB w f zoom m left ⌝ }
 {
     let spare = no_character(w) & no_reading(w);
     let arc = Work::Arc {
@@ -138,22 +139,22 @@ fn arc_fits(w: PlainWork, f: Drawing, zoom: u8, m: Mode) -> bool
             d2: w.d2,
         },
     };
-    spare & placed(f, zoom, m, arc)
+    spare & placed(f, zoom, m, left, arc)
 }
 
-// What is in progress is formed and placed.
-fn work_fits(w: PlainWork, f: Drawing, zoom: u8, m: Mode) -> bool
-    ensures { λ t. ⌜ t ≡ (workFormB w && placedB f zoom m (workOf w)) ⌝ }
+// What is in progress is formed and placed, with its count.
+fn work_fits(w: PlainWork, f: Drawing, zoom: u8, m: Mode, left: u64) -> bool
+    ensures { λ t. ⌜ t ≡ (workFormB w && placedB f zoom m left (workOf w)) ⌝ }
 {
     let kind = w.kind;
     if kind == 0 {
-        return nothing_fits(w);
+        return nothing_fits(w, left);
     }
     match kind {
-        1 => figure_fits(w, f, zoom, m),
-        2 => character_fits(w, f, zoom, m),
-        3 => read_fits(w, f, zoom, m),
-        4 => arc_fits(w, f, zoom, m),
+        1 => figure_fits(w, f, zoom, m, left),
+        2 => character_fits(w, f, zoom, m, left),
+        3 => read_fits(w, f, zoom, m, left),
+        4 => arc_fits(w, f, zoom, m, left),
         _ => false,
     }
 }
@@ -186,7 +187,7 @@ pub fn fits(p: PlainRegisters) -> bool
     }
     let mode = numbers::mode_of(p.mode);
     let f = parts::drawing_of(p.drawing);
-    if !work_fits(p.work, f, p.video.zoom, mode) {
+    if !work_fits(p.work, f, p.video.zoom, mode, p.remaining) {
         return false;
     }
     registers::buffer_fits(mode, parts::buffer_of(p.buffer))

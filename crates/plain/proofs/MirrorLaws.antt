@@ -33,6 +33,7 @@ from-to r = λ i.
       buffer = r .buffer;
       progress = progress-back (r .progress) i;
       work = work-back (r .work) i;
+      remaining = r .remaining;
       board = board-back (r .board) i;
     }
 
@@ -86,5 +87,6 @@ to-from p s =
       buffer = p .buffer;
       progress = progress-there (p .progress) (and-right (a && b && c && w) d s₄) i;
       work = work-there (p .work) (and-right (a && b && c && w && d) e s) i;
+      remaining = p .remaining;
       board = board-there (p .board) (and-right (a && b && c) w s₃) i;
     }

@@ -20,6 +20,7 @@ fromPlain p =
       buffer = bufferOf (p .buffer);
       progress = progressOf (p .progress);
       work = workOf (p .work);
+      remaining = p .remaining;
       board = boardOf (p .board);
     }
 
@@ -37,5 +38,6 @@ toPlain r =
       buffer = bufferPlain (r .buffer);
       progress = progressPlain (r .progress);
       work = workPlain (r .work);
+      remaining = r .remaining;
       board = boardPlain (r .board);
     }

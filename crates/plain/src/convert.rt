@@ -32,6 +32,7 @@ pub fn from_plain(p: PlainRegisters) -> Registers
         buffer: buffer,
         progress: progress,
         work: work,
+        remaining: p.remaining,
         board: board,
     }
 }
@@ -63,6 +64,7 @@ pub fn to_plain(r: Registers) -> PlainRegisters
         buffer: buffer,
         progress: progress,
         work: plain,
+        remaining: r.remaining,
         board: board,
     }
 }

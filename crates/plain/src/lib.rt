@@ -88,5 +88,7 @@ pub struct PlainRegisters {
     pub buffer: PlainBuffer,
     pub progress: PlainProgress,
     pub work: PlainWork,
+    // How many cycles the figure in progress still needs, else 0.
+    pub remaining: u64,
     pub board: PlainBoard,
 }

@@ -18,7 +18,9 @@ use Rattle.registers.specs.declared.Progress.{Progress}
 use Rattle.registers.specs.declared.Registers.{Registers}
 use Rattle.registers.specs.Fresh.{freshDrawing, emptyBuffer}
 use Rattle.registers.specs.Size.{arcKind, dotsOf, rowsOf, columnsOf}
-use Rattle.registers.specs.Put.{putDrawing, putOp, putVideo, putPen, putMode, putBuffer, putProgress, putWork, putDisplay, putVsync}
+use Rattle.registers.specs.Left.{cyclesLeft}
+use Rattle.registers.specs.Put.{putDrawing, putOp, putVideo, putPen, putMode, putBuffer, putProgress, putWork, putRemaining, putDisplay}
+use Rattle.registers.specs.Put.{putVsync}
 use Rattle.commands.specs.Decode.{within, commandOf}
 use Rattle.arcs.specs.Unit.{arcBegun}
 
@@ -31,10 +33,12 @@ abbrev pub begun : Command → ℕ → Progress
 begun c b = record { command = c; next = firstOf b; low = 0 }
 
 -- "buffer emptied, write mode, figure or read ended where it stands, display off; other registers kept; parameters that follow it load the
--- eight sync bytes"
+-- eight sync bytes"; 02, M-103: the count "is 0 when no figure is in progress"
 unfoldable pub resetDone : Registers → Registers
 resetDone r =
-    putProgress (putWork (putBuffer (putMode (putVideo r (putDisplay (r .video) false)) mode.Write) emptyBuffer) Idle) (begun Reset 0)
+    putProgress
+    (putRemaining (putWork (putBuffer (putMode (putVideo r (putDisplay (r .video) false)) mode.Write) emptyBuffer) Idle) 0)
+    (begun Reset 0)
 
 -- "discard the entries behind them and turn to read mode"
 abbrev pub turned : Registers → Buffer → Registers
@@ -77,6 +81,10 @@ characterBegun r =
 unfoldable pub readBegun : Transfer → Registers → Registers
 readBegun t r = cond (ltb 0 (r .drawing .dc)) (putWork (turned r emptyBuffer) (Reading 0 t)) (turned r emptyBuffer)
 
+-- 02, M-103: "Keep the count in the register set.": with the figure that has begun, if one has, that of its cycles begins
+abbrev pub countBegun : Registers → Registers
+countBegun r = putRemaining r (cyclesLeft (r .drawing) (r .video .zoom) (r .work))
+
 abbrev pub commandBy : Command → ℕ → Registers → Registers
 commandBy Nothing b r = r
 commandBy Reset b r = resetDone r
@@ -92,8 +100,8 @@ commandBy Pitch b r = r
 commandBy Mask b r = r
 -- "Taking the FIGS command byte first gives DC, D, D2, D1 and DM their fresh values; type, DIR and GD stay."
 commandBy Figs b r = putDrawing r (freshDrawing (r .drawing))
-commandBy Figd b r = figdTaken r
-commandBy Gchrd b r = characterBegun r
+commandBy Figd b r = countBegun (figdTaken r)
+commandBy Gchrd b r = countBegun (characterBegun r)
 commandBy Curd b r = turned r (cursorBytes (r .cursor))
 commandBy Lprd b r = penGiven r
 -- "WDAT's command byte sets the operation for later figures.", "WDAT 20 + 8·type + operation": its two low bits

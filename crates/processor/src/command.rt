@@ -26,6 +26,7 @@ ghost use Rattle.processor.specs.Command.{
   figureBegun,
   figdTaken,
   characterBegun,
+  countBegun,
   readBegun,
   commandTaken,
 };
@@ -71,6 +72,7 @@ pub fn reset_done(r: Registers) -> Registers
             low: 0,
         },
         work: Work::Idle,
+        remaining: 0,
         ..r
     }
 }
@@ -253,6 +255,17 @@ fn begin_character(r: Registers) -> Registers
     r
 }
 
+// The count of the cycles of what has begun.
+fn begin_count(r: Registers) -> Registers
+    ensures { λ q. ⌜ q ≡ countBegun r ⌝ }
+{
+    let work = r.work;
+    let left = registers::cycles_left(r.drawing, r.video.zoom, work);
+    let mut n = r;
+    n.remaining = left;
+    n
+}
+
 // RDAT.
 fn begin_read(r: Registers, t: Transfer) -> Registers
     ensures { λ q. ⌜ q ≡ readBegun t r ⌝ }
@@ -281,8 +294,8 @@ pub fn command_taken(r: Registers, byte: u8) -> Registers
         Command::Vsync => master(n, byte % 2 == 1),
         Command::Start => start(n),
         Command::Figs => refresh(n),
-        Command::Figd => begin_figd(n),
-        Command::Gchrd => begin_character(n),
+        Command::Figd => begin_count(begin_figd(n)),
+        Command::Gchrd => begin_count(begin_character(n)),
         Command::Curd => turn(n, cursor_bytes(n.cursor)),
         Command::Lprd => pen_given(n),
         Command::Wdat(_) => operate(n, dots::operation_of(byte % 4)),

@@ -66,6 +66,7 @@ putSettings r p =
       buffer = r .buffer;
       progress = p .progress;
       work = r .work;
+      remaining = r .remaining;
       board = p .board;
     }
 

@@ -1,4 +1,5 @@
 // The run with a budget.
+use dots::Cursor;
 use dots::Wiring;
 use registers::Buffer;
 use registers::Mode;
@@ -7,7 +8,8 @@ use registers::Work;
 use walks::Brush;
 ghost use mathlib.Core.Path.{_≡_};
 ghost use Rattle.dots.specs.declared.Wiring.the-variants.{Folded};
-ghost use Rattle.registers.specs.Put.{putBuffer};
+ghost use Prim.Native.Nat.{_-_};
+ghost use Rattle.registers.specs.Put.{putCursor, putWork, putRemaining};
 ghost use Rattle.registers.specs.State.{state};
 ghost use Rattle.units.specs.Unit.{fetched, fetchBy};
 ghost use Rattle.units.specs.Run.{waiting, reasonOf, lengthB, outcome, runFrom, runDone};
@@ -160,6 +162,19 @@ fn brush_of(r: Registers) -> Brush
     }
 }
 
+// n cycles on a figure is elsewhere, or has ended; so many fewer are left.
+fn cycles_on(r: Registers, c: Cursor, w: Work, n: u32) -> Registers
+    ensures { λ q. ⌜ q ≡ putRemaining (putWork (putCursor r c) w) (r .remaining - n) ⌝ }
+{
+    let left = registers::rest_of(r.remaining, n as u64);
+    Registers {
+        cursor: c,
+        work: w,
+        remaining: left,
+        ..r
+    }
+}
+
 // Units until the budget is spent or there is a reason to stop: of a figure, an arc and a character many at once.
 pub fn run_on(r: Registers, mem: &mut [u16], budget: u32) -> Ran
     ensures { λ q. ⌜ outcome q (now (mem .exit)) ≡ runFrom budget 0 (state r (now (mem .entry))) ⌝ }
@@ -177,14 +192,14 @@ pub fn run_on(r: Registers, mem: &mut [u16], budget: u32) -> Ran
                 let q = bursts::figure(mem, brush_of(s), s.cursor, dot, d, budget - n);
                 let at = q.cursor;
                 let next = q.work;
-                s = figures::goes_on(s, at, next);
+                s = cycles_on(s, at, next, q.count);
                 n += q.count;
             }
             Work::Arc { cycle, running } => {
                 let q = sweeps::arc(mem, brush_of(s), s.cursor, cycle, running, budget - n);
                 let at = q.cursor;
                 let next = q.work;
-                s = figures::goes_on(s, at, next);
+                s = cycles_on(s, at, next, q.count);
                 n += q.count;
             }
             Work::Character { row, column, start } => {
@@ -192,7 +207,7 @@ pub fn run_on(r: Registers, mem: &mut [u16], budget: u32) -> Ran
                 let q = bursts::character(mem, b, s.cursor, row, column, start, budget - n);
                 let at = q.cursor;
                 let next = q.work;
-                s = figures::goes_on(s, at, next);
+                s = cycles_on(s, at, next, q.count);
                 n += q.count;
             }
             Work::Reading { item, transfer } => {

@@ -55,8 +55,8 @@ sub-figure c = search needs
 figure-requires : tie.Need-figure-requires Inv-loop μ-loop
 figure-requires c κs = search needs
 
-goes-on-requires : tie.Need-goes-on-requires Inv-loop μ-loop
-goes-on-requires c κs = search needs
+cycles-on-requires : tie.Need-cycles-on-requires Inv-loop μ-loop
+cycles-on-requires c κs = search needs
 
 add-n : tie.Need-add-n Inv-loop μ-loop
 add-n c =
@@ -88,7 +88,7 @@ loop-again c =
     record {
       within = v .within;
       long = c .before .before .before .before .before .figure .kept .0 ∙ w .before .before .before .before .before .loop .inv .long;
-      same = w .before .before .before .before .before .loop .inv .same ∙ goes-ahead _ _ _ _ _ v (c .before .goes-on .ensures);
+      same = w .before .before .before .before .before .loop .inv .same ∙ goes-ahead _ _ _ _ _ v (c .before .cycles-on .ensures);
     }
 
 enum-known-work-2 : tie.Need-enum-known-work-2 Inv-loop μ-loop
@@ -103,8 +103,8 @@ sub-arc c = search needs
 arc-requires : tie.Need-arc-requires Inv-loop μ-loop
 arc-requires c κs = search needs
 
-goes-on-requires-2 : tie.Need-goes-on-requires-2 Inv-loop μ-loop
-goes-on-requires-2 c κs = search needs
+cycles-on-requires-2 : tie.Need-cycles-on-requires-2 Inv-loop μ-loop
+cycles-on-requires-2 c κs = search needs
 
 add-n-2 : tie.Need-add-n-2 Inv-loop μ-loop
 add-n-2 c =
@@ -136,7 +136,7 @@ loop-again-2 c =
     record {
       within = v .within;
       long = c .before .before .before .before .before .arc .kept .0 ∙ w .before .before .before .before .before .loop .inv .long;
-      same = w .before .before .before .before .before .loop .inv .same ∙ goes-ahead _ _ _ _ _ v (c .before .goes-on2 .ensures);
+      same = w .before .before .before .before .before .loop .inv .same ∙ goes-ahead _ _ _ _ _ v (c .before .cycles-on2 .ensures);
     }
 
 enum-known-work-3 : tie.Need-enum-known-work-3 Inv-loop μ-loop
@@ -151,8 +151,8 @@ sub-character c = search needs
 character-requires : tie.Need-character-requires Inv-loop μ-loop
 character-requires c κs = search needs
 
-goes-on-requires-3 : tie.Need-goes-on-requires-3 Inv-loop μ-loop
-goes-on-requires-3 c κs = search needs
+cycles-on-requires-3 : tie.Need-cycles-on-requires-3 Inv-loop μ-loop
+cycles-on-requires-3 c κs = search needs
 
 add-n-3 : tie.Need-add-n-3 Inv-loop μ-loop
 add-n-3 c =
@@ -185,7 +185,7 @@ loop-again-3 c =
     record {
       within = v .within;
       long = c .before .before .before .before .before .character .kept .0 ∙ w .before .before .before .before .before .loop .inv .long;
-      same = w .before .before .before .before .before .loop .inv .same ∙ goes-ahead _ _ _ _ _ v (c .before .goes-on3 .ensures);
+      same = w .before .before .before .before .before .loop .inv .same ∙ goes-ahead _ _ _ _ _ v (c .before .cycles-on3 .ensures);
     }
 
 enum-known-work-4 : tie.Need-enum-known-work-4 Inv-loop μ-loop
@@ -258,7 +258,7 @@ run-on-spec =
     brush-of-requires
     sub-figure
     figure-requires
-    goes-on-requires
+    cycles-on-requires
     add-n
     loop-less
     loop-again
@@ -266,7 +266,7 @@ run-on-spec =
     brush-of-requires-2
     sub-arc
     arc-requires
-    goes-on-requires-2
+    cycles-on-requires-2
     add-n-2
     loop-less-2
     loop-again-2
@@ -274,7 +274,7 @@ run-on-spec =
     brush-of-requires-3
     sub-character
     character-requires
-    goes-on-requires-3
+    cycles-on-requires-3
     add-n-3
     loop-less-3
     loop-again-3

@@ -1,6 +1,6 @@
 -- `command_taken` decodes the byte, notes the command and goes by cases (`taken-by`); those that do nothing more share one (`quiet-by`).
 use Rattle.processor.proofs.CommandLaws.{taken-by, quiet-by}
-use Rattle.processor.specs.Command.{turned}
+use Rattle.processor.specs.Command.{turned, countBegun}
 use Rattle.registers.specs.Put.{putOp}
 use mathlib.Core.Path.{_∙_, ap}
 use borrow.Author.Needs.{needs}
@@ -43,11 +43,17 @@ enum-told-5 c = search needs
 begin-figd-requires : tie.Need-begin-figd-requires
 begin-figd-requires c κs = search needs
 
+begin-count-requires : tie.Need-begin-count-requires
+begin-count-requires c κs = search needs
+
 enum-told-6 : tie.Need-enum-told-6
 enum-told-6 c = search needs
 
 begin-character-requires : tie.Need-begin-character-requires
 begin-character-requires c κs = search needs
+
+begin-count-requires-2 : tie.Need-begin-count-requires-2
+begin-count-requires-2 c κs = search needs
 
 enum-told-7 : tie.Need-enum-told-7
 enum-told-7 c = search needs
@@ -101,13 +107,13 @@ returns-4 c =
 
 returns-5 : tie.Need-returns-5
 returns-5 c =
-    taken-by _ _ (c .before .before .before .before .command-of .ensures) (c .before .before .before .begin .ensures)
-    (c .before .enum-told5 .given .1) (c .begin-figd .ensures)
+    taken-by _ _ (c .before .before .before .before .before .command-of .ensures) (c .before .before .before .before .begin .ensures)
+    (c .before .before .enum-told5 .given .1) (c .begin-count .ensures ∙ ap countBegun (c .before .begin-figd .ensures))
 
 returns-6 : tie.Need-returns-6
 returns-6 c =
-    taken-by _ _ (c .before .before .before .before .command-of .ensures) (c .before .before .before .begin .ensures)
-    (c .before .enum-told6 .given .1) (c .begin-character .ensures)
+    taken-by _ _ (c .before .before .before .before .before .command-of .ensures) (c .before .before .before .before .begin .ensures)
+    (c .before .before .enum-told6 .given .1) (c .begin-count2 .ensures ∙ ap countBegun (c .before .begin-character .ensures))
 
 returns-7 : tie.Need-returns-7
 returns-7 c =
@@ -150,8 +156,10 @@ command-taken-spec =
     refresh-requires
     enum-told-5
     begin-figd-requires
+    begin-count-requires
     enum-told-6
     begin-character-requires
+    begin-count-requires-2
     enum-told-7
     cursor-bytes-requires
     turn-requires
