@@ -1,9 +1,9 @@
 -- What every entry of the controller keeps: a register set that is sound, has what its types say and is of one board (`SoundSet`), over a
 -- memory of 16-bit words of one length (`Whole`). A change of one register keeps it if the new value has its part.
-use mathlib.Core.Path.{_≡_, _∙_}
+use mathlib.Core.Path.{_≡_, ap, _∙_}
 use mathlib.Core.Bool.{true}
 use mathlib.Core.List.{List, [], _∷_}
-use Prim.Native.Nat.{ℕ, zero, suc, _≤_, _<_}
+use Prim.Native.Nat.{ℕ, zero, suc, _-_, _≤_, _<_}
 use native.Mathlib.Decide.{decLt}
 use native.Mathlib.Omega.{arith}
 use lib.ListN.{length, getD, set, length-set, List·getD-eq-default}
@@ -24,21 +24,25 @@ use Rattle.registers.specs.declared.Pen.{Pen}
 use Rattle.registers.specs.declared.Buffer.{Buffer}
 use Rattle.registers.specs.declared.Progress.{Progress}
 use Rattle.registers.specs.declared.Registers.{Registers}
+use Rattle.registers.specs.Left.{cyclesLeft}
 use Rattle.registers.specs.Sound.{soundB}
 use Rattle.registers.specs.Put.{putCursor, putPitch, putDrawing, putOp, putRam, putVideo, putPen, putMode, putBuffer, putProgress}
-use Rattle.registers.specs.Put.{putWork}
+use Rattle.registers.specs.Put.{putWork, putRemaining}
 use Rattle.registers.specs.State.{State, state}
 use Rattle.registers.specs.Typed.{StartFits, Typed, Words}
+use Rattle.processor.specs.Command.{countBegun}
 use Rattle.laws.proofs.SoundLaws.{Sound, DrawingFits, BufferFits, Inside, Suits, sound-parts, sound-whole}
 
 pub record Queue (m : Mode) (b : Buffer) : Type 0 where
   pub fits : BufferFits m b
   pub long : length (b .entries) ≡ 16
 
-pub record Going (f : Drawing) (zoom : ℕ) (m : Mode) (w : Work) : Type 0 where
+-- what is in progress, with n cycles left
+pub record Going (f : Drawing) (zoom : ℕ) (m : Mode) (n : ℕ) (w : Work) : Type 0 where
   pub place : Inside f zoom w
   pub mode : Suits m w
   pub start : StartFits w
+  pub count : n ≡ cyclesLeft f zoom w
 
 pub record SoundSet (board : Board) (r : Registers) : Type 0 where
   pub cursor : Fits (r .cursor)
@@ -47,7 +51,7 @@ pub record SoundSet (board : Board) (r : Registers) : Type 0 where
   pub pen : r .pen .address < addresses
   pub buffer : Queue (r .mode) (r .buffer)
   pub progress : r .progress .next ≤ 16
-  pub work : Going (r .drawing) (r .video .zoom) (r .mode) (r .work)
+  pub work : Going (r .drawing) (r .video .zoom) (r .mode) (r .remaining) (r .work)
   pub same : r .board ≡ board
 
 pub record Whole (board : Board) (n : ℕ) (s : State) : Type 0 where
@@ -55,9 +59,9 @@ pub record Whole (board : Board) (n : ℕ) (s : State) : Type 0 where
   pub words : Words (s .mem)
   pub long : length (s .mem) ≡ n
 
--- nothing in progress is inside any figure, and suits any mode
-pub idle : (f : Drawing) (zoom : ℕ) (m : Mode) {w : Work} → w ≡ Idle → Going f zoom m w
-idle f zoom m e = record { place = rw e tt; mode = rw e tt; start = rw e tt }
+-- nothing in progress is inside any figure, suits any mode, and leaves no cycle
+pub idle : (f : Drawing) (zoom : ℕ) (m : Mode) {n : ℕ} {w : Work} → w ≡ Idle → n ≡ 0 → Going f zoom m n w
+idle f zoom m e z = record { place = rw e tt; mode = rw e tt; start = rw e tt; count = rw e z }
 
 -- ---- from soundness and types, and back: each part is one of theirs, so it is found
 
@@ -83,6 +87,10 @@ lawful-typed r l = search
 -- ---- one register changed: its part is given, and the others stay as they are, so each is found
 
 module _ {board : Board} (r : Registers) (l : SoundSet board r) where
+  -- where nothing is in progress, no cycle is left
+  pub none-left : r .work ≡ Idle → r .remaining ≡ 0
+  none-left e = l .work .count ∙ ap (cyclesLeft (r .drawing) (r .video .zoom)) e
+
   pub cursor-kept : (c : Cursor) → Fits c → SoundSet board (putCursor r c)
   cursor-kept c h = search
 
@@ -90,13 +98,13 @@ module _ {board : Board} (r : Registers) (l : SoundSet board r) where
   plain-kept pitch op = search
 
   pub drawing-kept : r .work ≡ Idle → (f : Drawing) → DrawingFits f → SoundSet board (putDrawing r f)
-  drawing-kept e f h = search idle
+  drawing-kept e f h = let g = idle f (r .video .zoom) (r .mode) e (none-left e) in search
 
   pub ram-kept : (a : List ℕ) → length a ≡ 16 → SoundSet board (putRam r a)
   ram-kept a h = search
 
   pub video-kept : r .work ≡ Idle → (v : Video) → SoundSet board (putVideo r v)
-  video-kept e v = search idle
+  video-kept e v = let g = idle (r .drawing) (v .zoom) (r .mode) e (none-left e) in search
 
   pub pen-kept : (p : Pen) → p .address < addresses → SoundSet board (putPen r p)
   pen-kept p h = search
@@ -104,16 +112,27 @@ module _ {board : Board} (r : Registers) (l : SoundSet board r) where
   pub progress-kept : (p : Progress) → p .next ≤ 16 → SoundSet board (putProgress r p)
   progress-kept p h = search
 
-  -- mode, buffer and work go together
-  pub turn-kept : (m : Mode) (b : Buffer) (w : Work) → Queue m b → Going (r .drawing) (r .video .zoom) m w
-      → SoundSet board (putWork (putBuffer (putMode r m) b) w)
-  turn-kept m b w q g = search
+  -- mode, buffer, work and its count go together
+  pub turn-kept : (m : Mode) (b : Buffer) (n : ℕ) (w : Work) → Queue m b → Going (r .drawing) (r .video .zoom) m n w
+      → SoundSet board (putRemaining (putWork (putBuffer (putMode r m) b) w) n)
+  turn-kept m b n w q g = search
 
   pub buffer-kept : (b : Buffer) → Queue (r .mode) b → SoundSet board (putBuffer r b)
   buffer-kept b h = search
 
-  pub work-kept : (w : Work) → Going (r .drawing) (r .video .zoom) (r .mode) w → SoundSet board (putWork r w)
-  work-kept w h = search
+  pub work-kept : (n : ℕ) (w : Work) → Going (r .drawing) (r .video .zoom) (r .mode) n w → SoundSet board (putRemaining (putWork r w) n)
+  work-kept n w h = search
+
+  -- a count that was true is begun anew with the same number
+  pub count-kept : SoundSet board (countBegun r)
+  count-kept = search
+
+-- one cycle less is left, and none where the figure ends
+abbrev pub fewer : Registers → Registers
+fewer r = putRemaining r (r .remaining - 1)
+
+pub ends : {board : Board} (r : Registers) → SoundSet board r → r .remaining - 1 ≡ 0 → SoundSet board (fewer (putWork r Idle))
+ends r l z = work-kept r l (r .remaining - 1) Idle (record { place = tt; mode = tt; start = tt; count = z })
 
 -- ---- the memory
 

@@ -1,8 +1,8 @@
 -- An arc's moves keep the cursor and the running D, D1 and D2 within their widths, since each sum wraps below 16384; so FIGD, which puts
 -- an arc in progress only where it has a dot to draw, keeps the registers lawful.
-use mathlib.Core.Path.{_≡_}
+use mathlib.Core.Path.{_≡_, refl}
 use mathlib.Core.Bool.{Bool, true, false}
-use Prim.Native.Nat.{ℕ, zero, suc}
+use Prim.Native.Nat.{ℕ, zero, suc, _-_}
 use native.Mathlib.Omega.{arith}
 use lib.Dec.{ltb}
 use borrow.Author.Tests.{ltb-true}
@@ -14,12 +14,14 @@ use Rattle.registers.specs.declared.Running.{Running}
 use Rattle.registers.specs.declared.Registers.{Registers}
 use Rattle.registers.specs.declared.Work.the-variants.{Arc}
 use Rattle.registers.specs.Size.{arcCyclesOf}
+use Rattle.registers.specs.Put.{putCursor}
+use Rattle.processor.specs.Command.{countBegun}
 use Rattle.arcs.specs.declared.Moving.{Moving}
 use Rattle.arcs.specs.Arc.{turnsB, runningBy, runningOn, arcDirection, movedOn, passed}
 use Rattle.arcs.specs.Unit.{copied, moving, arcBegun}
 use Rattle.laws.proofs.BranchLaws.{cases}
 use Rattle.laws.proofs.SoundLaws.{RunningFits}
-use Rattle.laws.proofs.KeptLaws.{SoundSet, cursor-kept, work-kept}
+use Rattle.laws.proofs.KeptLaws.{SoundSet, cursor-kept, work-kept, count-kept}
 
 pub record MovingFits (m : Moving) : Type 0 where
   pub running : RunningFits (m .running)
@@ -46,13 +48,15 @@ module _ {board : Board} (r : Registers) (l : SoundSet board r) (write : r .mode
   copied-fits : RunningFits (copied (r .drawing))
   copied-fits = record { d = l .drawing .d; d1 = l .drawing .d1; d2 = l .drawing .d2 }
 
-  pub arc-begins : SoundSet board (arcBegun r)
+  pub arc-begins : SoundSet board (countBegun (arcBegun r))
   unfolding arcBegun
   arc-begins =
       let m = moving r (copied (r .drawing)) in
       let c = passed (r .drawing .dir) (r .pitch) m (r .drawing .dc) .cursor in
-      cases (SoundSet board) (ltb 0 (arcCyclesOf (r .drawing)))
-      (λ t. work-kept r l (Arc 0 (copied (r .drawing)))
-      (record { place = (ltb-true 0 (arcCyclesOf (r .drawing)) t, copied-fits); mode = write; start = tt }))
-      (λ t. cursor-kept r l c (passed-fits (r .drawing .dir) (r .pitch) m (r .drawing .dc)
-      (record { running = copied-fits; cursor = l .cursor }) .cursor))
+      let after : SoundSet board (putCursor r c) =
+      cursor-kept r l c (passed-fits (r .drawing .dir) (r .pitch) m (r .drawing .dc)
+      (record { running = copied-fits; cursor = l .cursor }) .cursor) in
+      cases (λ (q : Registers). SoundSet board (countBegun q)) (ltb 0 (arcCyclesOf (r .drawing)))
+      (λ t. work-kept r l (arcCyclesOf (r .drawing) - 0) (Arc 0 (copied (r .drawing)))
+      (record { place = (ltb-true 0 (arcCyclesOf (r .drawing)) t, copied-fits); mode = write; start = tt; count = refl }))
+      (λ t. count-kept (putCursor r c) after)

@@ -1,6 +1,6 @@
 -- The ports, the status and the light pen keep a lawful register set lawful: what is queued is a byte, with a command mark or
 -- without, and a refusal answers the set given.
-use mathlib.Core.Path.{_≡_, refl}
+use mathlib.Core.Path.{_≡_, refl, sym, ap, _∙_}
 use mathlib.Core.Bool.{true}
 use Prim.Native.Nat.{ℕ, _+_, _<_}
 use native.Mathlib.Omega.{arith}
@@ -10,16 +10,19 @@ use Rattle.dots.specs.Step.{addresses}
 use Rattle.registers.specs.declared.Board.{Board}
 use Rattle.registers.specs.declared.Mode.{Mode}
 use Rattle.registers.specs.declared.Mode.the-variants.{Write, Read}
-use Rattle.registers.specs.declared.Work.the-variants.{Idle}
+use Rattle.registers.specs.declared.Drawing.{Drawing}
+use Rattle.registers.specs.declared.Work.{Work}
+use Rattle.registers.specs.declared.Work.the-variants.{Idle, Figure, Arc, Character, Reading}
 use Rattle.registers.specs.declared.Registers.{Registers}
 use Rattle.registers.specs.Fresh.{emptyBuffer}
-use Rattle.registers.specs.Sound.{soundB, markB}
+use Rattle.registers.specs.Sound.{writeB, soundB, markB}
 use Rattle.registers.specs.Buffer.{pushed, popped}
+use Rattle.registers.proofs.BoolLaws.{false-true}
 use Rattle.ports.specs.declared.Answer.{Answer}
 use Rattle.ports.specs.Port.{queued, turnedBack, queuedOr3, commandIn, commandWritten, parameterIn, parameterWritten, byteIn, byteRead}
 use Rattle.ports.specs.Port.{statusRead, penPosted}
 use Rattle.laws.proofs.BranchLaws.{either, cases}
-use Rattle.laws.proofs.KeptLaws.{SoundSet, idle, buffer-kept, pen-kept, turn-kept}
+use Rattle.laws.proofs.KeptLaws.{Going, SoundSet, idle, buffer-kept, pen-kept, turn-kept}
 use Rattle.laws.proofs.KeptBufferLaws.{empty-queue, pushed-queue, popped-queue}
 use Rattle.laws.proofs.KeptProcessorLaws.{reset-kept}
 
@@ -34,13 +37,24 @@ module _ {board : Board} (r : Registers) (l : SoundSet board r) where
   unfolding queuedOr3
   queued-or-3 e h = either (Answers board) (leb 16 (r .buffer .count)) l (queued-kept e h)
 
-pub turned-back : {board : Board} (r : Registers) → SoundSet board r → SoundSet board (turnedBack r)
-turned-back r l = turn-kept r l Write emptyBuffer Idle (empty-queue Write) (idle (r .drawing) (r .video .zoom) Write refl)
+-- in read mode no figure is in progress, so that no cycle is left
+none-in-read-mode : (f : Drawing) (zoom : ℕ) (m : Mode) (n : ℕ) (w : Work) → m ≡ Read → Going f zoom m n w → n ≡ 0
+none-in-read-mode f zoom m n Idle e g = g .count
+none-in-read-mode f zoom m n (Figure k d) e g = absurd (false-true (ap writeB (sym e ∙ g .mode)))
+none-in-read-mode f zoom m n (Arc k a) e g = absurd (false-true (ap writeB (sym e ∙ g .mode)))
+none-in-read-mode f zoom m n (Character row column start) e g = absurd (false-true (ap writeB (sym e ∙ g .mode)))
+none-in-read-mode f zoom m n (Reading i t) e g = g .count
+
+pub turned-back : {board : Board} (r : Registers) → SoundSet board r → r .mode ≡ Read → SoundSet board (turnedBack r)
+turned-back r l e =
+    turn-kept r l Write emptyBuffer (r .remaining) Idle (empty-queue Write)
+    (idle (r .drawing) (r .video .zoom) Write refl
+    (none-in-read-mode (r .drawing) (r .video .zoom) (r .mode) (r .remaining) (r .work) e (l .work)))
 
 module _ {board : Board} (r : Registers) (l : SoundSet board r) where
   command-in : (m : Mode) → r .mode ≡ m → (b : ℕ) → b < 256 → Answers board (commandIn m r b)
   command-in Write e b h = queued-or-3 r l (b + 256) (rw e (omega arith))
-  command-in Read e b h = queued-kept (turnedBack r) (turned-back r l) (b + 256) (omega arith)
+  command-in Read e b h = queued-kept (turnedBack r) (turned-back r l e) (b + 256) (omega arith)
 
   pub command-written-kept : (b : ℕ) → b < 256 → Answers board (commandWritten r b)
   unfolding commandWritten

@@ -4,7 +4,7 @@
 use mathlib.Core.Path.{_≡_, refl, _∙_}
 use mathlib.Core.Bool.{false, _&&_}
 use mathlib.Core.List.{List}
-use Prim.Native.Nat.{ℕ, zero, suc, _/_, _%_, _^_, _≤_, _<_}
+use Prim.Native.Nat.{ℕ, zero, suc, _-_, _/_, _%_, _^_, _≤_, _<_}
 use native.Mathlib.Omega.{arith}
 use lib.Dec.{eqb, ltb, ltb→lt}
 use lib.ListN.{set, length-set}
@@ -26,20 +26,21 @@ use Rattle.registers.specs.declared.Buffer.{Buffer}
 use Rattle.registers.specs.declared.Registers.{Registers}
 use Rattle.registers.specs.Fresh.{freshDrawing, emptyBuffer}
 use Rattle.registers.specs.Size.{arcKind, dotsOf, rowsOf, columnsOf}
+use Rattle.registers.specs.Left.{characterLeft}
 use Rattle.registers.specs.Sound.{allBelow}
-use Rattle.registers.specs.Put.{putCursor, putVideo, putMode, putBuffer, putProgress, putWork, putDisplay}
+use Rattle.registers.specs.Put.{putCursor, putVideo, putMode, putBuffer, putProgress, putWork, putRemaining, putDisplay}
 use Rattle.registers.specs.State.{State, state}
 use Rattle.registers.proofs.BoolLaws.{and-left, and-right}
 use Rattle.commands.specs.Decode.{within, commandOf}
 use Rattle.processor.specs.Command.{begun, resetDone, turned, cursorBytes, penBytes, figureBegun, figdTaken, characterBegun}
-use Rattle.processor.specs.Command.{readBegun, commandBy, commandTaken}
+use Rattle.processor.specs.Command.{countBegun, readBegun, commandBy, commandTaken}
 use Rattle.parameters.specs.Parameter.{cursBy, maskBy, figsBy, ramBy, pitchBy, syncBy, ccharBy, zoomBy}
 use Rattle.wdat.specs.Wdat.{halfB, bitMappedB, setPattern, firstSync, wdatProgress, setDone, wdatTaken}
 use Rattle.processor.specs.Entry.{nextOf, counted, parameterBy, parameterTaken, entryTaken}
 use Rattle.laws.proofs.BranchLaws.{either, cases}
 use Rattle.laws.proofs.SoundLaws.{DrawingFits}
-use Rattle.laws.proofs.KeptLaws.{Queue, SoundSet, Whole, idle, cursor-kept, plain-kept, drawing-kept, ram-kept, video-kept, pen-kept}
-use Rattle.laws.proofs.KeptLaws.{progress-kept, work-kept, turn-kept, cycle-kept}
+use Rattle.laws.proofs.KeptLaws.{Queue, SoundSet, Whole, idle, none-left, cursor-kept, plain-kept, drawing-kept, ram-kept, video-kept}
+use Rattle.laws.proofs.KeptLaws.{pen-kept, progress-kept, work-kept, count-kept, turn-kept, cycle-kept}
 use Rattle.laws.proofs.KeptBufferLaws.{bytes-queue, empty-queue}
 use Rattle.laws.proofs.KeptMoveLaws.{arc-begins}
 
@@ -48,9 +49,9 @@ use Rattle.laws.proofs.KeptMoveLaws.{arc-begins}
 pub reset-kept : {board : Board} (r : Registers) → SoundSet board r → SoundSet board (resetDone r)
 unfolding resetDone
 reset-kept {board} r l =
-    let ended = putWork (putBuffer (putMode r Write) emptyBuffer) Idle in
+    let ended = putRemaining (putWork (putBuffer (putMode r Write) emptyBuffer) Idle) 0 in
     let still : SoundSet board ended =
-    turn-kept r l Write emptyBuffer Idle (empty-queue Write) (idle (r .drawing) (r .video .zoom) Write refl) in
+    turn-kept r l Write emptyBuffer 0 Idle (empty-queue Write) (idle (r .drawing) (r .video .zoom) Write refl refl) in
     let dark = putVideo ended (putDisplay (r .video) false) in
     progress-kept dark (video-kept ended still refl (putDisplay (r .video) false)) (begun Reset 0) (omega arith)
 
@@ -83,37 +84,42 @@ fresh-drawing f s =
 
 module _ {board : Board} (r : Registers) (l : SoundSet board r) (e : r .work ≡ Idle) where
   turned-kept : (b : Buffer) → Queue Read b → SoundSet board (turned r b)
-  turned-kept b q = turn-kept r l Read b (r .work) q (idle (r .drawing) (r .video .zoom) Read e)
+  turned-kept b q =
+      turn-kept r l Read b (r .remaining) (r .work) q (idle (r .drawing) (r .video .zoom) Read e (none-left r l e))
 
   read-kept : (t : Transfer) → SoundSet board (readBegun t r)
   unfolding readBegun
   read-kept t =
       let after : SoundSet board (turned r emptyBuffer) = turned-kept emptyBuffer (empty-queue Read) in
       cases (SoundSet board) (ltb 0 (r .drawing .dc))
-      (λ p. work-kept (turned r emptyBuffer) after (Reading 0 t)
-      (record { place = ltb-true 0 (r .drawing .dc) p; mode = refl; start = tt }))
+      (λ p. work-kept (turned r emptyBuffer) after (r .remaining) (Reading 0 t)
+      (record { place = ltb-true 0 (r .drawing .dc) p; mode = refl; start = tt; count = none-left r l e }))
       (λ p. after)
 
   module _ (write : r .mode ≡ Write) where
-    figure-begins : SoundSet board (figureBegun r)
+    -- a figure begins with the count of its cycles
+    abbrev Counts : Registers → Type 0
+    Counts q = SoundSet board (countBegun q)
+
+    figure-begins : Counts (figureBegun r)
     unfolding figureBegun
     figure-begins =
-        cases (SoundSet board) (ltb 0 (dotsOf (r .drawing)))
-        (λ p. work-kept r l (Figure 0 (r .drawing .d))
-        (record { place = (ltb-true 0 (dotsOf (r .drawing)) p, l .drawing .d); mode = write; start = tt }))
-        (λ p. l)
+        cases Counts (ltb 0 (dotsOf (r .drawing)))
+        (λ p. work-kept r l (dotsOf (r .drawing) - 0) (Figure 0 (r .drawing .d))
+        (record { place = (ltb-true 0 (dotsOf (r .drawing)) p, l .drawing .d); mode = write; start = tt; count = refl }))
+        (λ p. count-kept r l)
 
-    figd-kept : SoundSet board (figdTaken r)
+    figd-kept : Counts (figdTaken r)
     unfolding figdTaken
-    figd-kept = either (SoundSet board) (eqb (r .drawing .kind) arcKind) (arc-begins r l write) figure-begins
+    figd-kept = either Counts (eqb (r .drawing .kind) arcKind) (arc-begins r l write) figure-begins
 
-    character-begins : SoundSet board (characterBegun r)
+    character-begins : Counts (characterBegun r)
     unfolding characterBegun
     character-begins =
         let rows = rowsOf (r .drawing) (r .video .zoom) in
         let columns = columnsOf (r .drawing) (r .video .zoom) in
-        cases (SoundSet board) (ltb 0 rows && ltb 0 columns)
-        (λ p. work-kept r l (Character 0 0 (r .cursor))
+        cases Counts (ltb 0 rows && ltb 0 columns)
+        (λ p. work-kept r l (characterLeft (r .drawing) (r .video .zoom) 0 0) (Character 0 0 (r .cursor))
         (record {
           place = (
             ltb-true 0 rows (and-left (ltb 0 rows) (ltb 0 columns) p),
@@ -122,8 +128,9 @@ module _ {board : Board} (r : Registers) (l : SoundSet board r) (e : r .work ≡
           );
           mode = write;
           start = l .cursor .mask;
+          count = refl;
         }))
-        (λ p. l)
+        (λ p. count-kept r l)
 
     command-by : (c : Command) (b : ℕ) → SoundSet board (commandBy c b r)
     command-by Nothing b = l

@@ -9,6 +9,7 @@ pub mod KeptArcLaws
 pub mod KeptUnitLaws
 pub mod KeptPortLaws
 pub mod Kept
+pub mod Left
 pub mod RunLaws
 pub mod OnlyLaws
 pub mod TypedLaws

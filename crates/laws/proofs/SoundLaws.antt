@@ -7,7 +7,7 @@ use Prim.Native.Nat.{ℕ, zero, suc, _≤_, _<_}
 use native.Mathlib.Omega.{arith}
 use lib.Dec.{ltb, leb}
 use lib.ListN.{getD, take}
-use borrow.Author.Tests.{ltb-true, leb-true, lt-ltb, le-leb}
+use borrow.Author.Tests.{ltb-true, leb-true, eqb-true, lt-ltb, le-leb, eq-eqb}
 use Rattle.dots.specs.Step.{addresses}
 use Rattle.registers.specs.declared.Mode.{Mode}
 use Rattle.registers.specs.declared.Mode.the-variants.{Write, Read}
@@ -19,8 +19,9 @@ use Rattle.registers.specs.declared.Buffer.{Buffer}
 use Rattle.registers.specs.declared.Registers.{Registers}
 use Rattle.registers.specs.Fresh.{freshSet}
 use Rattle.registers.specs.Size.{dotsOf, arcCyclesOf, rowsOf, columnsOf}
+use Rattle.registers.specs.Left.{cyclesLeft}
 use Rattle.registers.specs.Sound.{allBelow, cursorB, drawingB, penB, progressB, markB, bufferB, runningB, placeB, writeB}
-use Rattle.registers.specs.Sound.{workB, soundB}
+use Rattle.registers.specs.Sound.{workB, countB, soundB}
 use Rattle.registers.specs.Typed.{Typed}
 use Rattle.registers.proofs.BoolLaws.{false-true, and-left, and-right}
 
@@ -70,6 +71,7 @@ pub record Sound (r : Registers) : Type 0 where
   pub buffer : BufferFits (r .mode) (r .buffer)
   pub place : Inside (r .drawing) (r .video .zoom) (r .work)
   pub work : Suits (r .mode) (r .work)
+  pub count : r .remaining ≡ cyclesLeft (r .drawing) (r .video .zoom) (r .work)
 
 -- ---- lists
 
@@ -213,13 +215,15 @@ work-whole m (Reading item t) p = rw p
 
 pub sound-parts : (r : Registers) → soundB r ≡ true → Sound r
 unfolding soundB
-sound-parts r e₆ =
+sound-parts r e₇ =
     let cursor = cursorB (r .cursor) in
     let drawing = cursor && drawingB (r .drawing) in
     let pen = drawing && penB (r .pen) in
     let progress = pen && progressB (r .progress) in
     let buffer = progress && bufferB (r .mode) (r .buffer) in
     let place = buffer && placeB (r .drawing) (r .video .zoom) (r .work) in
+    let work = place && workB (r .mode) (r .work) in
+    let e₆ : work ≡ true = and-left work (countB r) e₇ in
     let e₅ : place ≡ true = and-left place (workB (r .mode) (r .work)) e₆ in
     let e₄ : buffer ≡ true = and-left buffer (placeB (r .drawing) (r .video .zoom) (r .work)) e₅ in
     let e₃ : progress ≡ true = and-left progress (bufferB (r .mode) (r .buffer)) e₄ in
@@ -233,6 +237,7 @@ sound-parts r e₆ =
       buffer = buffer-parts (r .mode) (r .buffer) (and-right progress (bufferB (r .mode) (r .buffer)) e₄);
       place = place-parts (r .drawing) (r .video .zoom) (r .work) (and-right buffer (placeB (r .drawing) (r .video .zoom) (r .work)) e₅);
       work = work-parts (r .mode) (r .work) (and-right place (workB (r .mode) (r .work)) e₆);
+      count = eqb-true (r .remaining) (cyclesLeft (r .drawing) (r .video .zoom) (r .work)) (and-right work (countB r) e₇);
     }
 
 pub sound-whole : (r : Registers) → Sound r → soundB r ≡ true
@@ -246,6 +251,7 @@ sound-whole r s =
       buffer-whole (r .mode) (r .buffer) (s .buffer),
       place-whole (r .drawing) (r .video .zoom) (r .work) (s .place),
       work-whole (r .mode) (r .work) (s .work),
+      eq-eqb (r .remaining) (cyclesLeft (r .drawing) (r .video .zoom) (r .work)) (s .count),
     )
 
 -- ---- the fresh set
