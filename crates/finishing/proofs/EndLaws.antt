@@ -25,6 +25,7 @@ use Rattle.registers.specs.declared.Board.{Board}
 use Rattle.registers.specs.declared.Registers.{Registers}
 use Rattle.registers.specs.Size.{plainKind, lineKind, characterKind, arcKind, rectangleKind, dotsOf, arcCyclesOf, factorOf, rowsOf}
 use Rattle.registers.specs.Size.{columnsOf}
+use Rattle.registers.specs.Left.{characterLeft, cyclesLeft}
 use Rattle.registers.specs.Buffer.{oldest, popped}
 use Rattle.registers.specs.Put.{putBuffer, putProgress}
 use Rattle.registers.specs.State.{State, state}
@@ -50,11 +51,12 @@ use Rattle.laws.proofs.KeptUnitLaws.{unit-kept}
 abbrev pub longest : ℕ
 longest = 68715282432
 
+-- the cycles left of a figure, the items left of a read
 abbrev inWork : Drawing → ℕ → Work → ℕ
 inWork f zoom Idle = 0
-inWork f zoom (Figure k d) = dotsOf f - k
-inWork f zoom (Arc k a) = arcCyclesOf f - k
-inWork f zoom (Character row column start) = rowsOf f zoom * columnsOf f zoom - (row * columnsOf f zoom + column)
+inWork f zoom (Figure k d) = cyclesLeft f zoom (Figure k d)
+inWork f zoom (Arc k a) = cyclesLeft f zoom (Arc k a)
+inWork f zoom (Character row column start) = cyclesLeft f zoom (Character row column start)
 inWork f zoom (Reading i t) = f .dc - i
 
 abbrev inQueue : Mode → ℕ → ℕ
@@ -93,6 +95,7 @@ unfolding columnsOf
 columns-few f zoom fits = mul-le-mul {n₂ = 16383} {m₂ = 16} (omega (arith, fits .d)) (factor-few zoom)
 
 work-few : (f : Drawing) (zoom : ℕ) → DrawingFits f → (w : Work) → inWork f zoom w ≤ longest
+unfolding characterLeft
 work-few f zoom fits Idle = omega arith
 work-few f zoom fits (Figure k d) = omega (arith, dots-few f fits)
 work-few f zoom fits (Arc k a) = omega (arith, cycles-few f fits)
@@ -203,8 +206,8 @@ module _ {board : Board} (n : ℕ) (s : State) (w : Whole board n s) where
   arc-less k a h = either (Less (arcCyclesOf (r .drawing) - k)) (ltb (k + 1) (arcCyclesOf (r .drawing))) (omega arith) (omega arith)
 
   character-less : (row column : ℕ) (start : Cursor) → row < rows → column < columns
-      → Less (rows * columns - (row * columns + column)) (characterUnit row column start s .regs)
-  unfolding characterUnit characterMoved
+      → Less (characterLeft (r .drawing) (r .video .zoom) row column) (characterUnit row column start s .regs)
+  unfolding characterUnit characterMoved characterLeft
   character-less row column start h k =
       let most : suc row * columns ≤ rows * columns = mul-le-mul-right columns h in
       let next : suc row * columns ≡ row * columns + columns = suc-mul row columns in
@@ -252,16 +255,16 @@ module _ {board : Board} (n : ℕ) (s : State) (w : Whole board n s) where
       → Less (inWork (r .drawing) (r .video .zoom) x) (unitBy x s .regs)
   less-by Idle e h = idle-less e (r .mode) refl h
   less-by (Figure k d) e h =
-      let g : Going (r .drawing) (r .video .zoom) (r .mode) (Figure k d) = rw e at (w .regs .work) in
+      let g : Going (r .drawing) (r .video .zoom) (r .mode) (r .remaining) (Figure k d) = rw e at (w .regs .work) in
       figure-less k d (g .place .0)
   less-by (Arc k a) e h =
-      let g : Going (r .drawing) (r .video .zoom) (r .mode) (Arc k a) = rw e at (w .regs .work) in
+      let g : Going (r .drawing) (r .video .zoom) (r .mode) (r .remaining) (Arc k a) = rw e at (w .regs .work) in
       arc-less k a (g .place .0)
   less-by (Character row column start) e h =
-      let g : Going (r .drawing) (r .video .zoom) (r .mode) (Character row column start) = rw e at (w .regs .work) in
+      let g : Going (r .drawing) (r .video .zoom) (r .mode) (r .remaining) (Character row column start) = rw e at (w .regs .work) in
       character-less row column start (g .place .0) (g .place .1)
   less-by (Reading i t) e h =
-      let g : Going (r .drawing) (r .video .zoom) (r .mode) (Reading i t) = rw e at (w .regs .work) in
+      let g : Going (r .drawing) (r .video .zoom) (r .mode) (r .remaining) (Reading i t) = rw e at (w .regs .work) in
       read-less i t (g .place) (g .mode) (has-room (roomB t (r .buffer)) h)
     where
       has-room : (b : Bool) → _≡_ {A = ℕ} (cond b 0 3) 0 → b ≡ true

@@ -90,7 +90,7 @@ module _ {P : Type 0} {board : Board} (r : Registers) (l : SoundSet board r) (wa
   stands-by (Arc k a) e still = absurd (still refl)
   stands-by (Character row column start) e still = absurd (still refl)
   stands-by (Reading i t) e still =
-      let g : Going (r .drawing) (r .video .zoom) (r .mode) (Reading i t) = rw e at (l .work) in
+      let g : Going (r .drawing) (r .video .zoom) (r .mode) (r .remaining) (Reading i t) = rw e at (l .work) in
       reads (g .mode)
 
   pub stands : (reasonOf r ≡ 0 → ⊥) → P

@@ -4,7 +4,7 @@
 use mathlib.Core.Path.{_≡_, refl, ap, subst, _∙_}
 use mathlib.Core.Bool.{true}
 use mathlib.Core.List.{List, [], _∷_}
-use Prim.Native.Nat.{ℕ, zero, suc, _+_, _≤_, _<_}
+use Prim.Native.Nat.{ℕ, zero, suc, _+_, _-_, _≤_, _<_}
 use native.Mathlib.Nat.{add-suc, add-zero}
 use native.Mathlib.Numerals.{add-one}
 use native.Mathlib.Omega.{arith}
@@ -14,10 +14,10 @@ use borrow.Author.Tests.{lt-ltb, le-ltb, eq-eqb}
 use Rattle.registers.specs.declared.Work.the-variants.{Idle, Arc}
 use Rattle.registers.specs.declared.Registers.{Registers}
 use Rattle.registers.specs.Size.{arcCyclesOf}
-use Rattle.registers.specs.Put.{putCursor, putWork}
+use Rattle.registers.specs.Put.{putCursor, putWork, putRemaining}
 use Rattle.registers.specs.State.{State, state}
 use Rattle.commands.specs.Decode.{commandOf}
-use Rattle.processor.specs.Command.{figdTaken, commandTaken}
+use Rattle.processor.specs.Command.{figdTaken, countBegun, commandTaken}
 use Rattle.processor.specs.Entry.{entryTaken}
 use Rattle.figures.specs.Figure.{patternAt}
 use Rattle.arcs.specs.declared.Moving.{Moving}
@@ -25,6 +25,7 @@ use Rattle.arcs.specs.Arc.{passed}
 use Rattle.arcs.specs.Unit.{copied, moving, arcBegun, meets, arcMoved, arcUnit}
 use Rattle.units.specs.Unit.{unitDone}
 use Rattle.units.specs.Run.{reasonOf, unitsDone, lengthB}
+use Rattle.laws.proofs.KeptLaws.{none-left}
 use Rattle.geometry.proofs.CycleLaws.{cycles}
 use Rattle.sending.specs.Send.{fullBudget}
 use Rattle.sending.proofs.RunLaws.{units-last}
@@ -47,7 +48,9 @@ module _ (r : Registers) (m : List ℕ) where
   standing (suc k) = movedTo (r .drawing .dm + suc k)
 
   abbrev here : ℕ → State
-  here k = state (putWork (putCursor r (standing k .cursor)) (Arc k (standing k .running))) (drawnUpTo k)
+  here k =
+      state (putRemaining (putWork (putCursor r (standing k .cursor)) (Arc k (standing k .running))) (arcCyclesOf (r .drawing) - k))
+      (drawnUpTo k)
 
   -- the last cycle was cycle n
   abbrev pub arcEnded : ℕ → State
@@ -59,14 +62,18 @@ module _ (r : Registers) (m : List ℕ) where
 
   goes-on : (k : ℕ) → k + 1 < arcCyclesOf (r .drawing) → unitDone (here k) ≡ here (suc k)
   unfolding unitDone arcUnit arcMoved cycles passed
-  goes-on k h = rw (met k, lt-ltb (k + 1) (arcCyclesOf (r .drawing)) h, add-one k, add-suc (r .drawing .dm) k)
+  goes-on k h =
+      let fewer : arcCyclesOf (r .drawing) - k - 1 ≡ arcCyclesOf (r .drawing) - suc k = omega arith in
+      rw (met k, lt-ltb (k + 1) (arcCyclesOf (r .drawing)) h, fewer, add-one k, add-suc (r .drawing .dm) k)
 
-  ends : (n : ℕ) → arcCyclesOf (r .drawing) ≤ n + 1 → unitDone (here n) ≡ arcEnded n
+  ends : (n : ℕ) → r .remaining ≡ 0 → arcCyclesOf (r .drawing) ≤ n + 1 → unitDone (here n) ≡ arcEnded n
   unfolding unitDone arcUnit arcMoved cycles
-  ends n h = rw (met n, le-ltb (n + 1) (arcCyclesOf (r .drawing)) h)
+  ends n none h =
+      let last : arcCyclesOf (r .drawing) - n - 1 ≡ r .remaining = omega arith in
+      rw (met n, le-ltb (n + 1) (arcCyclesOf (r .drawing)) h, last)
 
   abbrev begun : State
-  begun = state (putWork r (Arc 0 (copied (r .drawing)))) m
+  begun = state (countBegun (putWork r (Arc 0 (copied (r .drawing))))) m
 
   starts : begun ≡ here 0
   unfolding cycles
@@ -77,15 +84,15 @@ module _ (r : Registers) (m : List ℕ) where
   path zero h = starts
   path (suc k) h = units-last k _ ∙ ap unitDone (path k (omega arith)) ∙ goes-on k (omega arith)
 
-  whole : (n : ℕ) → suc n ≡ arcCyclesOf (r .drawing) → unitsDone (suc n) begun ≡ arcEnded n
-  whole n all = units-last n _ ∙ ap unitDone (path n (omega arith)) ∙ ends n (omega arith)
+  whole : (n : ℕ) → r .remaining ≡ 0 → suc n ≡ arcCyclesOf (r .drawing) → unitsDone (suc n) begun ≡ arcEnded n
+  whole n none all = units-last n _ ∙ ap unitDone (path n (omega arith)) ∙ ends n none (omega arith)
 
   -- nothing is drawn: the cursor has made the DC moves
   abbrev pub arcPassed : State
   arcPassed = state (putCursor r (movedTo (r .drawing .dc) .cursor)) m
 
 module _ {q : Registers} (v : Waiting q) (arc : q .drawing .kind ≡ 4) where
-  taken : (m : List ℕ) → takenBy 0x16C q m ≡ state (arcBegun (figd q)) m
+  taken : (m : List ℕ) → takenBy 0x16C q m ≡ state (countBegun (arcBegun (figd q))) m
   unfolding entryTaken commandTaken commandOf figdTaken
   taken m = rw (eq-eqb (q .drawing .kind) 4 arc)
 
@@ -96,7 +103,7 @@ module _ {q : Registers} (v : Waiting q) (arc : q .drawing .kind ≡ 4) where
     reaches m i = ap (unitsDone i) (taken m ∙ rw (lt-ltb 0 (arcCyclesOf (q .drawing)) (omega arith)) refl)
 
     done : (m : List ℕ) → unitsDone (suc n) (takenBy 0x16C q m) ≡ arcEnded (figd q) m n
-    done m = reaches m (suc n) ∙ whole (figd q) m n all
+    done m = reaches m (suc n) ∙ whole (figd q) m n (none-left q (v .lawful) (v .idle)) all
 
     pub arc-draws : (m : List ℕ) → lengthB (q .board .wiring) (length m) ≡ true → n + 2 < fullBudget
         → Leads (state q m) (0x16C ∷ []) (suc n) (arcEnded (figd q) m n)
@@ -115,7 +122,7 @@ module _ {q : Registers} (v : Waiting q) (arc : q .drawing .kind ≡ 4) where
   module _ (none : arcCyclesOf (q .drawing) ≡ 0) where
     at-once : (m : List ℕ) → takenBy 0x16C q m ≡ arcPassed (figd q) m
     unfolding arcBegun
-    at-once m = taken m ∙ rw (le-ltb 0 (arcCyclesOf (q .drawing)) (omega arith)) refl
+    at-once m = taken m ∙ rw (le-ltb 0 (arcCyclesOf (q .drawing)) (omega arith), ← v .lawful .work .count) refl
 
     pub arc-passes : Acts q (0x16C ∷ []) (arcPassed (figd q) [] .regs)
     arc-passes = acts-one v (omega arith) (λ z. omega arith) at-once refl refl refl

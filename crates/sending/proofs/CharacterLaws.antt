@@ -3,7 +3,7 @@
 use mathlib.Core.Path.{_≡_, refl, ap, subst, _∙_}
 use mathlib.Core.Bool.{true}
 use mathlib.Core.List.{List, [], _∷_}
-use Prim.Native.Nat.{ℕ, zero, suc, _+_, _*_, _/_, _%_, _≤_, _<_}
+use Prim.Native.Nat.{ℕ, zero, suc, _+_, _-_, _*_, _/_, _%_, _≤_, _<_}
 use native.Mathlib.Nat.{zero-div, mod-lt, mod-eq-of-lt, div-lt-iff-lt-mul}
 use native.Mathlib.Omega.{arith}
 use native.Mathlib.Numerals.{add-one}
@@ -16,14 +16,16 @@ use Rattle.registers.specs.declared.Command.the-variants.{Gchrd}
 use Rattle.registers.specs.declared.Work.the-variants.{Idle, Character}
 use Rattle.registers.specs.declared.Registers.{Registers}
 use Rattle.registers.specs.Size.{factorOf, rowsOf, columnsOf}
-use Rattle.registers.specs.Put.{putCursor, putProgress, putWork}
+use Rattle.registers.specs.Left.{characterLeft}
+use Rattle.registers.specs.Put.{putCursor, putProgress, putWork, putRemaining}
 use Rattle.registers.specs.State.{State, state}
 use Rattle.commands.specs.Decode.{commandOf}
-use Rattle.processor.specs.Command.{characterBegun, commandTaken}
+use Rattle.processor.specs.Command.{characterBegun, countBegun, commandTaken}
 use Rattle.processor.specs.Entry.{entryTaken}
 use Rattle.figures.specs.Character.{characterPattern, nextStart, characterMoved, characterUnit}
 use Rattle.units.specs.Unit.{unitDone}
 use Rattle.units.specs.Run.{reasonOf, unitsDone, lengthB}
+use Rattle.laws.proofs.KeptLaws.{none-left}
 use Rattle.geometry.proofs.WalkLaws.{walk}
 use Rattle.geometry.proofs.CycleLaws.{cycles}
 use Rattle.geometry.proofs.GlyphLaws.{spot, in-row-mod, in-row-div, row-end-mod, row-end-div}
@@ -53,24 +55,34 @@ module _ (r : Registers) (m : List ℕ) (some : 0 < columnsOf (r .drawing) (r .v
   inked i = cycles (r .board .wiring) (r .op) (λ j. characterPattern (r .ram) (factorOf (r .video .zoom)) (j / w) (j % w)) spotAt i m
 
   abbrev here : ℕ → State
-  here i = state (putWork (putCursor r (spotAt i)) (Character (i / w) (i % w) (rowAt i))) (inked i)
+  here i = state (putRemaining (putWork (putCursor r (spotAt i)) (Character (i / w) (i % w) (rowAt i))) (rows * w - i)) (inked i)
 
   abbrev pub finished : ℕ → State
   finished n = state (putWork (putCursor r (spotAt n)) Idle) (inked (suc n))
 
+  fewer : (i : ℕ) → rows * w - i - 1 ≡ rows * w - suc i
+  fewer i = omega arith
+
   -- the next dot in the row, the next row, the end
   along : (i : ℕ) → i % w + 1 < w → unitDone (here i) ≡ here (suc i)
   unfolding unitDone characterUnit characterMoved cycles spot walk
-  along i h = rw (lt-ltb (i % w + 1) w h, in-row-mod w i h, in-row-div w i h, add-one (i % w))
+  along i h = rw (lt-ltb (i % w + 1) w h, in-row-mod w i h, in-row-div w i h, add-one (i % w), fewer i)
 
   upward : (i : ℕ) → i % w + 1 ≡ w → i / w + 1 < rows → unitDone (here i) ≡ here (suc i)
   unfolding unitDone characterUnit characterMoved nextStart cycles spot walk
   upward i h k =
-      rw (le-ltb (i % w + 1) w (omega arith), lt-ltb (i / w + 1) rows k, row-end-mod w i some h, row-end-div w i some h, add-one (i / w))
+      rw (
+        le-ltb (i % w + 1) w (omega arith),
+        lt-ltb (i / w + 1) rows k,
+        row-end-mod w i some h,
+        row-end-div w i some h,
+        add-one (i / w),
+        fewer i,
+      )
 
-  ends : (i : ℕ) → i % w + 1 ≡ w → rows ≤ i / w + 1 → unitDone (here i) ≡ finished i
+  ends : (i : ℕ) → rows * w - i - 1 ≡ r .remaining → i % w + 1 ≡ w → rows ≤ i / w + 1 → unitDone (here i) ≡ finished i
   unfolding unitDone characterUnit characterMoved cycles
-  ends i h k = rw (le-ltb (i % w + 1) w (omega arith), le-ltb (i / w + 1) rows k)
+  ends i last h k = rw (le-ltb (i % w + 1) w (omega arith), le-ltb (i / w + 1) rows k, last)
 
   goes-on : (i : ℕ) → suc i < rows * w → unitDone (here i) ≡ here (suc i)
   goes-on i h = go (ℕ-discrete (i % w + 1) w)
@@ -80,11 +92,11 @@ module _ (r : Registers) (m : List ℕ) (some : 0 < columnsOf (r .drawing) (r .v
       go (no e) = along i (omega (arith, mod-lt i some))
 
   abbrev begun : State
-  begun = state (putWork r (Character 0 0 (r .cursor))) m
+  begun = state (countBegun (putWork r (Character 0 0 (r .cursor)))) m
 
   starts : begun ≡ here 0
-  unfolding cycles spot walk
-  starts = rw (zero-div w, mod-eq-of-lt some)
+  unfolding cycles spot walk characterLeft
+  starts = let all : rows * w - (0 * w + 0) ≡ rows * w - 0 = omega arith in rw (zero-div w, mod-eq-of-lt some, all)
 
   path : (i : ℕ) → i < rows * w → unitsDone i begun ≡ here i
   unfolding unitsDone
@@ -106,8 +118,8 @@ module _ (r : Registers) (m : List ℕ) (some : 0 < columnsOf (r .drawing) (r .v
         let z : suc n / w ≡ rows = ap (λ (k : ℕ). k / w) (all ∙ omega arith) ∙ digits-div rows some in
         omega (arith, row-end-div w n some row-ends)
 
-    whole : unitsDone (suc n) begun ≡ finished n
-    whole = units-last n begun ∙ ap unitDone (path n (omega arith)) ∙ ends n row-ends (omega (arith, rows-end))
+    whole : r .remaining ≡ 0 → unitsDone (suc n) begun ≡ finished n
+    whole none = units-last n begun ∙ ap unitDone (path n (omega arith)) ∙ ends n (omega arith) row-ends (omega (arith, rows-end))
 
 -- the registers when GCHRD is taken
 abbrev pub gchrd : Registers → Registers
@@ -123,7 +135,7 @@ module _ {q : Registers} (v : Waiting q) (some : 0 < columnsOf (q .drawing) (q .
   reaches m i = ap (unitsDone i) (taken m (omega (arith, rows-end (gchrd q) m some n all)))
 
   done : (m : List ℕ) → unitsDone (suc n) (takenBy 0x168 q m) ≡ finished (gchrd q) m some n
-  done m = reaches m (suc n) ∙ whole (gchrd q) m some n all
+  done m = reaches m (suc n) ∙ whole (gchrd q) m some n all (none-left q (v .lawful) (v .idle))
 
   pub gchrd-draws : (m : List ℕ) → lengthB (q .board .wiring) (length m) ≡ true → n + 2 < fullBudget
       → Leads (state q m) (0x168 ∷ []) (suc n) (finished (gchrd q) m some n)

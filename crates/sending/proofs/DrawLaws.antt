@@ -1,9 +1,10 @@
 -- FIGD: one unit for the command and one for each dot. After i of its units the figure stands at the i-th cursor of its walk and
--- has made the cycles before it: each unit is one cycle and, but for the last, one step.
+-- has made the cycles before it: each unit is one cycle and, but for the last, one step. The count of those left has then fallen by i,
+-- and at the end by all.
 use mathlib.Core.Path.{_≡_, refl, ap, subst, _∙_}
 use mathlib.Core.Bool.{true, false, cond, _||_}
 use mathlib.Core.List.{List, [], _∷_}
-use Prim.Native.Nat.{ℕ, zero, suc, _+_, _≤_, _<_}
+use Prim.Native.Nat.{ℕ, zero, suc, _+_, _-_, _≤_, _<_}
 use native.Mathlib.Omega.{arith}
 use lib.Dec.{eqb}
 use lib.ListN.{length}
@@ -14,14 +15,15 @@ use Rattle.registers.specs.declared.Work.the-variants.{Idle, Figure}
 use Rattle.registers.specs.declared.Drawing.{Drawing}
 use Rattle.registers.specs.declared.Registers.{Registers}
 use Rattle.registers.specs.Size.{plainKind, lineKind, arcKind, rectangleKind, dotsOf}
-use Rattle.registers.specs.Put.{putCursor, putProgress, putWork}
+use Rattle.registers.specs.Put.{putCursor, putProgress, putWork, putRemaining}
 use Rattle.registers.specs.State.{State, state}
 use Rattle.commands.specs.Decode.{commandOf}
-use Rattle.processor.specs.Command.{figureBegun, figdTaken, commandTaken}
+use Rattle.processor.specs.Command.{figureBegun, figdTaken, countBegun, commandTaken}
 use Rattle.processor.specs.Entry.{entryTaken}
 use Rattle.figures.specs.Figure.{patternAt, directionAt, runningD, figureMoved, figureUnit}
 use Rattle.units.specs.Unit.{unitDone}
 use Rattle.units.specs.Run.{reasonOf, unitsDone, lengthB}
+use Rattle.laws.proofs.KeptLaws.{none-left}
 use Rattle.geometry.proofs.WalkLaws.{walk}
 use Rattle.geometry.proofs.CycleLaws.{cycles}
 use Rattle.sending.specs.Send.{fullBudget}
@@ -46,30 +48,39 @@ module _ (r : Registers) (m : List ℕ) where
   drawnUpTo i = cycles (r .board .wiring) (r .op) (patternAt (r .ram)) cursorOf i m
 
   abbrev here : ℕ → State
-  here i = state (putWork (putCursor r (cursorOf i)) (Figure i (runningAt (r .drawing) i))) (drawnUpTo i)
+  here i =
+      state (putRemaining (putWork (putCursor r (cursorOf i)) (Figure i (runningAt (r .drawing) i))) (dotsOf (r .drawing) - i)) (drawnUpTo i)
 
   abbrev pub ended : ℕ → State
   ended n = state (putWork (putCursor r (cursorOf n)) Idle) (drawnUpTo (suc n))
 
   goes-on : (i : ℕ) → i + 1 < dotsOf (r .drawing) → unitDone (here i) ≡ here (suc i)
   unfolding unitDone figureUnit figureMoved walk cycles runningAt
-  goes-on i h = let e : i + 1 ≡ suc i = omega arith in rw (lt-ltb (i + 1) (dotsOf (r .drawing)) h, e)
+  goes-on i h =
+      let e : i + 1 ≡ suc i = omega arith in
+      let fewer : dotsOf (r .drawing) - i - 1 ≡ dotsOf (r .drawing) - suc i = omega arith in
+      rw (lt-ltb (i + 1) (dotsOf (r .drawing)) h, fewer, e)
 
-  ends : (n : ℕ) → dotsOf (r .drawing) ≤ n + 1 → unitDone (here n) ≡ ended n
+  ends : (n : ℕ) → r .remaining ≡ 0 → dotsOf (r .drawing) ≤ n + 1 → unitDone (here n) ≡ ended n
   unfolding unitDone figureUnit figureMoved cycles
-  ends n h = rw (le-ltb (n + 1) (dotsOf (r .drawing)) h)
+  ends n none h =
+      let last : dotsOf (r .drawing) - n - 1 ≡ r .remaining = omega arith in
+      rw (le-ltb (n + 1) (dotsOf (r .drawing)) h, last)
 
-  starts : state (putWork r (Figure 0 (r .drawing .d))) m ≡ here 0
+  abbrev pub begun : State
+  begun = state (countBegun (putWork r (Figure 0 (r .drawing .d)))) m
+
+  starts : begun ≡ here 0
   unfolding walk cycles runningAt
   starts = refl
 
-  path : (i : ℕ) → i < dotsOf (r .drawing) → unitsDone i (state (putWork r (Figure 0 (r .drawing .d))) m) ≡ here i
+  path : (i : ℕ) → i < dotsOf (r .drawing) → unitsDone i begun ≡ here i
   unfolding unitsDone
   path zero h = starts
   path (suc i) h = units-last i _ ∙ ap unitDone (path i (omega arith)) ∙ goes-on i (omega arith)
 
-  whole : (n : ℕ) → suc n ≡ dotsOf (r .drawing) → unitsDone (suc n) (state (putWork r (Figure 0 (r .drawing .d))) m) ≡ ended n
-  whole n all = units-last n _ ∙ ap unitDone (path n (omega arith)) ∙ ends n (omega arith)
+  whole : (n : ℕ) → r .remaining ≡ 0 → suc n ≡ dotsOf (r .drawing) → unitsDone (suc n) begun ≡ ended n
+  whole n none all = units-last n _ ∙ ap unitDone (path n (omega arith)) ∙ ends n none (omega arith)
 
 -- the registers when FIGD is taken
 abbrev pub figd : Registers → Registers
@@ -84,16 +95,16 @@ no-arc f h = ne-eqb (f .kind) arcKind (λ e. go (f .kind) e h)
         → 0 < cond (eqb k plainKind || eqb k lineKind) (f .dc + 1) (cond (eqb k rectangleKind) (f .d + f .d2 + f .d + f .d2) 0) → ⊥
     go k e p = let z = rw e at p in omega (arith, z)
 
-begun : (q : Registers) (m : List ℕ) → 0 < dotsOf (q .drawing) → takenBy 0x16C q m ≡ state (putWork (figd q) (Figure 0 (q .drawing .d))) m
+begins : (q : Registers) (m : List ℕ) → 0 < dotsOf (q .drawing) → takenBy 0x16C q m ≡ begun (figd q) m
 unfolding entryTaken commandTaken commandOf figdTaken figureBegun
-begun q m h = rw (no-arc (q .drawing) h, lt-ltb 0 (dotsOf (q .drawing)) h)
+begins q m h = rw (no-arc (q .drawing) h, lt-ltb 0 (dotsOf (q .drawing)) h)
 
 module _ {q : Registers} (v : Waiting q) (n : ℕ) (all : suc n ≡ dotsOf (q .drawing)) where
-  reaches : (m : List ℕ) (i : ℕ) → unitsDone i (takenBy 0x16C q m) ≡ unitsDone i (state (putWork (figd q) (Figure 0 (q .drawing .d))) m)
-  reaches m i = ap (unitsDone i) (begun q m (omega arith))
+  reaches : (m : List ℕ) (i : ℕ) → unitsDone i (takenBy 0x16C q m) ≡ unitsDone i (begun (figd q) m)
+  reaches m i = ap (unitsDone i) (begins q m (omega arith))
 
   done : (m : List ℕ) → unitsDone (suc n) (takenBy 0x16C q m) ≡ ended (figd q) m n
-  done m = reaches m (suc n) ∙ whole (figd q) m n all
+  done m = reaches m (suc n) ∙ whole (figd q) m n (none-left q (v .lawful) (v .idle)) all
 
   pub figd-draws : (m : List ℕ) → lengthB (q .board .wiring) (length m) ≡ true → n + 2 < fullBudget
       → Leads (state q m) (0x16C ∷ []) (suc n) (ended (figd q) m n)

@@ -17,7 +17,7 @@ use Rattle.sending.proofs.WaitLaws.{Waiting}
 
 module _ (r : Registers) (l : SoundSet (r .board) r) (read : r .mode ≡ Read) where
   pub turned-waits : Waiting (turnedBack r)
-  turned-waits = record { lawful = turned-back r l; mode = refl; idle = refl; empty = refl }
+  turned-waits = record { lawful = turned-back r l read; mode = refl; idle = refl; empty = refl }
 
   turns : written r 0x147 ≡ granted 0 (queued (turnedBack r) 0x147)
   unfolding commandWritten
@@ -25,7 +25,7 @@ module _ (r : Registers) (l : SoundSet (r .board) r) (read : r .mode ≡ Read) w
 
   turned : written (turnedBack r) 0x147 ≡ granted 0 (queued (turnedBack r) 0x147)
   unfolding commandWritten queuedOr3
-  turned = rw (lawful-sound (turnedBack r) (turned-back r l))
+  turned = rw (lawful-sound (turnedBack r) (turned-back r l read))
 
   pub pitch-turns : (m : List ℕ) → sent (state r m) 0x147 ≡ sent (state (turnedBack r) m) 0x147
   unfolding sent
