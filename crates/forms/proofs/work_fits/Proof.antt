@@ -1,6 +1,4 @@
 -- `work_fits` goes by the kind: at each of them form and place are what its test says, and any other number is no kind.
-use Rattle.forms.proofs.FormLaws.{and-true}
-use mathlib.Core.Path.{sym}
 use borrow.Author.Tests.{ne-eqb}
 use borrow.Author.Needs.{needs}
 use Rattle.forms.proofs.work_fits.Statement.{statement}
@@ -10,7 +8,7 @@ nothing-fits-requires : tie.Need-nothing-fits-requires
 nothing-fits-requires c κs = search needs
 
 returns : tie.Need-returns
-returns c = rw (c .nothing-fits .ensures, c .before .if1 .taken) (sym (and-true _))
+returns c = rw (c .nothing-fits .ensures, c .before .if1 .taken)
 
 figure-fits-requires : tie.Need-figure-fits-requires
 figure-fits-requires c κs = search needs
