@@ -26,6 +26,16 @@ static uint32_t figure_dots(const struct hand *h) {
 /* An arc's dots from DM to DC. */
 static uint32_t arc_cycles(const struct hand *h) { return h->type == 4 && h->dm <= h->dc ? h->dc + 1u - h->dm : 0; }
 
+/* M-103: the cycles still to come of what is in progress. */
+static uint64_t cycles_left(const struct hand *h) {
+    switch (h->work) {
+    case FIGURE: return figure_dots(h) - h->dot;
+    case ARC: return arc_cycles(h) - h->dot;
+    case CHARACTER: return (uint64_t)(rows(h) - h->row) * columns(h) - h->column;
+    default: return 0;
+    }
+}
+
 /* "A sound register set has every field within its width, at most 16 buffered entries, the place reached inside .." */
 static bool sound(const struct hand *h) {
     if (h->ead >> 18 || h->pen >> 18 || h->start_ead >> 18 || h->type >> 5 || h->dir >> 3 || h->op >> 2) return false;
@@ -34,6 +44,7 @@ static bool sound(const struct hand *h) {
     uint16_t all = 0;
     for (int i = 0; i < 16; i++) all |= h->entries[i];
     if (all >> (h->read_mode ? 8 : 9)) return false;
+    if (h->remaining != cycles_left(h)) return false;
     switch (h->work) {
     case IDLE: return true;
     case FIGURE: return !h->read_mode && h->dot < figure_dots(h);
@@ -60,6 +71,7 @@ static void reset(struct hand *h) {
     empty(h);
     h->read_mode = false;
     h->work = IDLE;
+    h->remaining = 0;
     h->display = false;
     h->command = RESET;
     h->next = h->low = 0;
@@ -313,7 +325,7 @@ static __attribute__((noinline)) uint32_t draw_arcs(struct hand *h, uint16_t *me
     }
 }
 
-static uint32_t draw(struct hand *h, uint16_t *mem, uint32_t fold, uint32_t budget) {
+static uint32_t draw_some(struct hand *h, uint16_t *mem, uint32_t fold, uint32_t budget) {
     if (h->work == ARC) return draw_arcs(h, mem, fold, budget);
     switch (h->op) {
     case 0: return draw_with(h, mem, fold, budget, 0);
@@ -321,6 +333,12 @@ static uint32_t draw(struct hand *h, uint16_t *mem, uint32_t fold, uint32_t budg
     case 2: return draw_with(h, mem, fold, budget, 2);
     default: return draw_with(h, mem, fold, budget, 3);
     }
+}
+
+static uint32_t draw(struct hand *h, uint16_t *mem, uint32_t fold, uint32_t budget) {
+    const uint32_t n = draw_some(h, mem, fold, budget);
+    h->remaining -= n;
+    return n;
 }
 
 static bool room(const struct hand *h) { return h->count + (is_word(h->command) ? 2 : 1) <= 16; }
@@ -385,13 +403,17 @@ static void take_command(struct hand *h, uint8_t b) {
     switch (b) {
     case 0x6E: case 0x6F: h->vsync = b & 1; return;
     case 0x6B: h->display = true; return;
-    case 0x6C: begin_figure(h); return;
+    case 0x6C:
+        begin_figure(h);
+        h->remaining = cycles_left(h);
+        return;
     case 0x68:
         if (rows(h) && columns(h)) {
             h->work = CHARACTER;
             h->row = h->column = 0;
             h->start_ead = h->ead;
             h->start_mask = h->mask;
+            h->remaining = cycles_left(h);
         }
         return;
     case 0xE0:

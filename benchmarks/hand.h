@@ -1,4 +1,4 @@
-/* The controller as one would write it by hand in C, from document 01 and M-100: the measure that the proved run is held against. */
+/* The controller as one would write it by hand in C, from document 01, M-100, M-101 and M-103: the measure that the proved run is held against. */
 #ifndef HAND_H
 #define HAND_H
 #include <stddef.h>
@@ -33,6 +33,7 @@ struct hand {
     uint32_t start_ead;
     uint16_t start_mask;
     uint16_t item; /* READING */
+    uint64_t remaining; /* M-103: the cycles that the figure in progress still needs */
 };
 
 void hand_fresh(struct hand *h);

@@ -209,6 +209,7 @@ static void wrong_sets(void) {
     WRONG(drawing.kind = 4; r.drawing.dm = 0; r.work.kind = KRANICHSEIL_ARC; r.work.dot = 1);
     WRONG(drawing.kind = 4; r.drawing.dm = 0; r.work.kind = KRANICHSEIL_ARC; r.work.d2 = 16384);
     WRONG(mode = KRANICHSEIL_READ; r.buffer.count = 1; r.buffer.entries[0] = 256); WRONG(board.wiring = 2); WRONG(board.wiring = 128);
+    WRONG(remaining = 1); WRONG(remaining = (uint64_t)1 << 32);
 }
 
 static void wrong_lengths(void) {

@@ -20,7 +20,7 @@ static int same(const struct kranichseil_registers *a, const struct kranichseil_
         && FIELD(ram) && FIELD(video) && FIELD(pen.address) && FIELD(pen.set) && FIELD(mode) && FIELD(buffer.entries)
         && FIELD(buffer.count) && FIELD(progress) && FIELD(work.kind) && FIELD(work.transfer) && FIELD(work.d) && FIELD(work.d1)
         && FIELD(work.d2) && FIELD(work.item) && FIELD(work.dot) && FIELD(work.row) && FIELD(work.column) && FIELD(work.start.ead)
-        && FIELD(work.start.mask) && FIELD(board.wiring);
+        && FIELD(work.start.mask) && FIELD(remaining) && FIELD(board.wiring);
 }
 
 static void section(const char *name, void (*cases)(void)) {

@@ -1,4 +1,4 @@
-// What c/test.c and c/wiring.c share: a controller that is driven by its ports, and a sheet of one record.
+// What c/test.c, c/wiring.c and c/lamp.c share: a controller that is driven by its ports, and a sheet of one record.
 #include "check.h"
 
 static struct kranichseil_registers r;

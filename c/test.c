@@ -16,11 +16,12 @@ SIZE(progress, 4); AT(progress, command, 0); AT(progress, transfer, 1); AT(progr
 SIZE(work, 32); AT(work, kind, 0); AT(work, transfer, 1); AT(work, d, 2); AT(work, d1, 4); AT(work, d2, 6); AT(work, item, 8);
 AT(work, dot, 12); AT(work, row, 16); AT(work, column, 20); AT(work, start, 24);
 SIZE(board, 1); AT(board, wiring, 0);
-SIZE(registers, 140); AT(registers, cursor, 0); AT(registers, pitch, 8); AT(registers, drawing, 10); AT(registers, op, 24);
+SIZE(registers, 152); AT(registers, cursor, 0); AT(registers, pitch, 8); AT(registers, drawing, 10); AT(registers, op, 24);
 AT(registers, ram, 25); AT(registers, video, 41); AT(registers, pen, 56); AT(registers, mode, 64); AT(registers, buffer, 66);
-AT(registers, progress, 100); AT(registers, work, 104); AT(registers, board, 136);
-SIZE(answer, 144); AT(answer, number, 0); AT(answer, value, 1); AT(answer, regs, 4);
-SIZE(ran, 152); AT(ran, number, 0); AT(ran, count, 4); AT(ran, why, 8); AT(ran, regs, 12);
+AT(registers, progress, 100); AT(registers, work, 104); AT(registers, remaining, 136);
+AT(registers, board, 144);
+SIZE(answer, 160); AT(answer, number, 0); AT(answer, value, 1); AT(answer, regs, 8);
+SIZE(ran, 168); AT(ran, number, 0); AT(ran, count, 4); AT(ran, why, 8); AT(ran, regs, 16);
 SIZE(report, 12); AT(report, number, 0); AT(report, count, 4); AT(report, why, 8);
 SIZE(reply, 2); AT(reply, number, 0); AT(reply, value, 1);
 SIZE(tally, 24); AT(tally, number, 0); AT(tally, taken, 8); AT(tally, units, 16);
@@ -186,6 +187,7 @@ static void refusals(void) {
     // no register set: a bit that is 2, an enum's number out of range, an unused field that is not 0
     UNSOUND(drawing.gd = 2); UNSOUND(video.display = 2); UNSOUND(video.vsync = 255); UNSOUND(pen.set = 2);
     UNSOUND(op = 4); UNSOUND(mode = 2); UNSOUND(board.wiring = 2); UNSOUND(board.wiring = 255);
+    UNSOUND(remaining = 1);
     UNSOUND(progress.command = 18); UNSOUND(progress.transfer = 1); UNSOUND(work.kind = 5); UNSOUND(work.transfer = 1);
     UNSOUND(work.d = 1); UNSOUND(work.item = 1); UNSOUND(work.dot = 1); UNSOUND(work.row = 1); UNSOUND(work.column = 1);
     UNSOUND(work.start.ead = 1); UNSOUND(work.start.mask = 1);
@@ -225,7 +227,7 @@ static void reached(unsigned dot, unsigned d, int d1, unsigned d2, unsigned ead,
 #define REACHED(dot, d, d1, d2, ead, mask) reached(dot, d, d1, d2, ead, mask, __LINE__)
 static void ended(unsigned ead, unsigned mask, int line) {
     struct kranichseil_registers idle = r;
-    memset(&idle.work, 0, sizeof idle.work);
+    memset(&idle.work, 0, sizeof idle.work); idle.remaining = 0;
     is(same(&r, &idle), 1, "nothing in progress", line);
     is(r.cursor.ead, ead, "ead", line); is(r.cursor.mask, mask, "mask", line); is(status(), 0x04, "status", line);
 }
@@ -260,7 +262,7 @@ static void arcs(void) {
     UNSOUND(work.d2 = 16384); UNSOUND(mode = KRANICHSEIL_READ); UNSOUND(drawing.kind = 5); UNSOUND(drawing.dm = 3); UNSOUND(work.kind = 5);
     UNSOUND(work.kind = KRANICHSEIL_FIGURE); UNSOUND(work.transfer = 1); UNSOUND(work.item = 1); UNSOUND(work.row = 1);
     UNSOUND(work.column = 1); UNSOUND(work.start.ead = 1); UNSOUND(work.start.mask = 1);
-    r.work.dot = 2; r.work.d = r.work.d1 = r.work.d2 = 16383; IS(kranichseil_status(r).number, 0);    // sound, though none of the circle's
+    r.work.dot = 2; r.remaining = 1; r.work.d = r.work.d1 = r.work.d2 = 16383; IS(kranichseil_status(r).number, 0);    // sound, though none of the circle's
     start(); NO_ARC(); SEND(0x4C, "\x09\x05\x00"); IS(command(0x6C), 0); run(2); NO_ARC();            // other work has no D1 and no D2
     start(); SEND(0x4C, "\x12\x07\x00"); IS(command(0x68), 0); run(2); IS(r.work.kind, KRANICHSEIL_CHARACTER); NO_ARC();
     start(); SEND(0x4C, "\x02\x14\x00"); IS(command(0xB0), 0); run(2); IS(r.work.kind, KRANICHSEIL_READING); NO_ARC();

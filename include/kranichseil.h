@@ -86,7 +86,7 @@ struct kranichseil_board {              /* 1 byte; what the board is: C sets it,
                                            the length meets none: it reads FFFF, a write there goes nowhere, its cycle counts */
 };
 
-struct kranichseil_registers {          /* 140 bytes */
+struct kranichseil_registers {          /* 152 bytes */
     struct kranichseil_cursor cursor;   /* 0 */
     uint8_t pitch;                      /* 8 */
     struct kranichseil_drawing drawing; /* 10 */
@@ -98,20 +98,22 @@ struct kranichseil_registers {          /* 140 bytes */
     struct kranichseil_buffer buffer;   /* 66 */
     struct kranichseil_progress progress; /* 100 */
     struct kranichseil_work work;       /* 104 */
-    struct kranichseil_board board;     /* 136 */
+    uint64_t remaining;                 /* 136: how many cycles the figure in progress still needs, else 0: a lamp reads it here.
+                                           Each call keeps it true, and refuses a set where it is false, with 1 */
+    struct kranichseil_board board;     /* 144 */
 };
 
-struct kranichseil_answer {             /* 144 bytes; of a port */
+struct kranichseil_answer {             /* 160 bytes; of a port */
     uint8_t number;                     /* 0 */
     uint8_t value;                      /* 1: the byte read */
-    struct kranichseil_registers regs;  /* 4 */
+    struct kranichseil_registers regs;  /* 8 */
 };
 
-struct kranichseil_ran {                /* 152 bytes; of a run */
+struct kranichseil_ran {                /* 168 bytes; of a run */
     uint8_t number;                     /* 0 */
     uint32_t count;                     /* 4: units done */
     uint8_t why;                        /* 8 */
-    struct kranichseil_registers regs;  /* 12 */
+    struct kranichseil_registers regs;  /* 16 */
 };
 
 struct kranichseil_report {             /* 12 bytes; of a run by reference */
