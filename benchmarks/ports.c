@@ -28,13 +28,16 @@ static struct kranichseil_registers state(const char *name) {
     r.drawing.dc = 7;
     if (strcmp(name, "figure") == 0) {
         r.work.kind = 1;
+        r.remaining = 8;
     } else if (strcmp(name, "arc") == 0) {
         r.drawing.kind = 4;
         r.drawing.dm = 0;
         r.work.kind = 4;
+        r.remaining = 8;
     } else if (strcmp(name, "character") == 0) {
         r.drawing.kind = 2;
         r.work.kind = 2;
+        r.remaining = 64;
     } else if (strcmp(name, "full") == 0) {
         r.buffer.count = 16;
     } else if (strcmp(name, "read") == 0) {

@@ -102,6 +102,7 @@ fn answer(
         Order::OfPort(p) => done(controls::port_done(r, p), d, out),
         Order::OfMemory(m) => worked(controls::memory_done(r, d.words, m, mem), d, out),
         Order::Draw => done(easel::drawing(r, d, mem, papers), d, out),
+        Order::Count(n) => done(controls::count_done(r, n), d, out),
         Order::Wire(w) => done(controls::wiring_done(r, w), d, out),
         _ => Left {
             regs: r,

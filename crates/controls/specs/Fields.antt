@@ -5,9 +5,18 @@ use mathlib.Core.List.{List, [], _∷_}
 use Rattle.dots.specs.declared.Wiring.{Wiring}
 use Rattle.dots.specs.declared.Wiring.the-variants.{Folded, Open}
 use Rattle.registers.specs.declared.Registers.{Registers}
+use Rattle.registers.specs.Put.{putRemaining}
 use Rattle.wirings.specs.Wired.{wiredAs}
 use Rattle.console.specs.declared.desk.Done.{Done}
 use Rattle.console.specs.declared.desk.Reply.the-variants.{One}
+
+-- `J 103 v`: "the count in the register set becomes v (up to FFFFFFFF), true or not": "`J 0`"
+abbrev pub countDone : Registers → ℕ → Done
+countDone r n = record { regs = putRemaining r n; reply = One 74 0 }
+
+-- "`F 103 left`"
+abbrev pub countFields : Registers → List ℕ
+countFields r = 0x103 ∷ r .remaining ∷ []
 
 -- `J 108 v`: "the wiring becomes v (0 or 1); the memory stays, of whatever length": "`J 0`"
 abbrev pub wiringDone : Registers → Wiring → Done

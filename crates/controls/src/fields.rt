@@ -4,7 +4,26 @@ use console::desk::Reply;
 use dots::Wiring;
 use registers::Registers;
 ghost use mathlib.Core.Path.{_≡_};
-ghost use Rattle.controls.specs.Fields.{wiringDone, wiringNumber, wiringFields};
+ghost use Rattle.controls.specs.Fields.{countDone, countFields, wiringDone, wiringNumber, wiringFields};
+
+// `J 103 v`
+pub fn count_done(r: Registers, v: u64) -> Done
+    ensures { λ q. ⌜ q ≡ countDone r v ⌝ }
+{
+    let mut n = r;
+    n.remaining = v;
+    Done {
+        regs: n,
+        reply: Reply::One(b'J', 0),
+    }
+}
+
+// The numbers of the answer to `F 103`; the request's has its decimal digits when it is written in hexadecimal.
+pub fn count_fields(r: Registers) -> [u64; 2]
+    ensures { λ l. ⌜ l ≡ countFields r ⌝ }
+{
+    [0x103, r.remaining]
+}
 
 // `J 108 v`
 pub fn wiring_done(r: Registers, w: Wiring) -> Done
@@ -25,7 +44,7 @@ fn wiring_number(w: Wiring) -> u64
     }
 }
 
-// The numbers of the answer to `F 108`; the request's has its decimal digits when it is written in hexadecimal.
+// The numbers of the answer to `F 108`.
 pub fn wiring_fields(r: Registers) -> [u64; 2]
     ensures { λ l. ⌜ l ≡ wiringFields r ⌝ }
 {

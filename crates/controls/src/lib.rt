@@ -5,6 +5,7 @@ mod memory;
 mod port;
 mod show;
 
+pub use fields::count_done;
 pub use fields::wiring_done;
 pub use memory::Worked;
 pub use memory::memory_done;

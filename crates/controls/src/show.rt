@@ -38,6 +38,12 @@ fn digest_shown(mem: &[u16], out: &mut [u8], held: usize) -> usize {
     character(out, b, b'\n')
 }
 
+// `F 103`
+fn count_shown(r: Registers, out: &mut [u8], held: usize) -> usize {
+    let a = begun(out, held, b'F', &crate::fields::count_fields(r));
+    character(out, a, b'\n')
+}
+
 // `F 108`
 fn wiring_shown(r: Registers, out: &mut [u8], held: usize) -> usize {
     let a = begun(out, held, b'F', &crate::fields::wiring_fields(r));
@@ -50,6 +56,7 @@ pub fn shown(r: Registers, s: Show, mem: &[u16], out: &mut [u8], held: usize) ->
         Show::Registers => registers_shown(r, out, held),
         Show::Words(a, n) => words_shown(a, n, mem, out, held),
         Show::Digest => digest_shown(mem, out, held),
+        Show::Counted => count_shown(r, out, held),
         Show::Wired => wiring_shown(r, out, held),
     }
 }

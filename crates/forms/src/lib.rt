@@ -9,7 +9,7 @@ use registers::Running;
 use registers::Work;
 ghost use mathlib.Core.Path.{_≡_};
 ghost use mathlib.Core.Bool.{_&&_};
-ghost use Rattle.registers.specs.Sound.{soundB};
+ghost use Rattle.registers.specs.Sound.{placeB, workB, soundB};
 ghost use Rattle.plain.specs.Form.{commandFormB, noFigureB, noArcB, noCharacterB, noReadingB, workFormB, bitsB, plainFormB};
 ghost use Rattle.plain.specs.Parts.{workOf};
 ghost use Rattle.plain.specs.Mirror.{fromPlain};
@@ -79,15 +79,14 @@ pub fn formed(p: PlainRegisters) -> bool
     bits & (p.op < numbers::OPERATIONS) & (p.mode < numbers::MODES) & wiring & command & work
 }
 
-// What is in progress is inside its figure or read, and of its mode, and so many cycles of it are left.
-fn placed(f: Drawing, zoom: u8, m: Mode, left: u64, work: Work) -> bool
-    ensures { λ t. ⌜ t ≡ placedB f zoom m left work ⌝ }
+// What is in progress is inside its figure or read, and of its mode.
+fn placed(f: Drawing, zoom: u8, m: Mode, work: Work) -> bool
+    ensures { λ t. ⌜ t ≡ (placeB f zoom work && workB m work) ⌝ }
 {
-    let inside = registers::place_fits(f, zoom, work) & registers::work_fits(m, work);
-    inside & (left == registers::cycles_left(f, zoom, work))
+    registers::place_fits(f, zoom, work) & registers::work_fits(m, work)
 }
 
-// Kind by kind: the fields that it has no use for are 0, and it is placed.
+// Kind by kind: the fields that it has no use for are 0, it is placed, and so many cycles of it are left.
 fn nothing_fits(w: PlainWork, left: u64) -> bool
     ensures { λ t. ⌜ t ≡ nothingB w left ⌝ }
 {
@@ -99,7 +98,9 @@ fn figure_fits(w: PlainWork, f: Drawing, zoom: u8, m: Mode, left: u64) -> bool
 {
     let spare = no_arc(w) & no_character(w) & no_reading(w);
     let figure = Work::Figure { dot: w.dot, d: w.d };
-    spare & placed(f, zoom, m, left, figure)
+    let cycles = registers::rest_of(registers::dots_of(f) as u64, w.dot as u64);
+    let inside = placed(f, zoom, m, figure) & (left == cycles);
+    spare & inside
 }
 
 fn character_fits(w: PlainWork, f: Drawing, zoom: u8, m: Mode, left: u64) -> bool
@@ -112,7 +113,9 @@ fn character_fits(w: PlainWork, f: Drawing, zoom: u8, m: Mode, left: u64) -> boo
         column: w.column,
         start: start,
     };
-    spare & placed(f, zoom, m, left, character)
+    let cycles = registers::character_left(f, zoom, w.row, w.column);
+    let inside = placed(f, zoom, m, character) & (left == cycles);
+    spare & inside
 }
 
 fn read_fits(w: PlainWork, f: Drawing, zoom: u8, m: Mode, left: u64) -> bool
@@ -124,7 +127,8 @@ fn read_fits(w: PlainWork, f: Drawing, zoom: u8, m: Mode, left: u64) -> bool
         item: w.item,
         transfer: transfer,
     };
-    spare & placed(f, zoom, m, left, read)
+    let inside = placed(f, zoom, m, read) & (left == 0);
+    spare & inside
 }
 
 fn arc_fits(w: PlainWork, f: Drawing, zoom: u8, m: Mode, left: u64) -> bool
@@ -139,7 +143,9 @@ fn arc_fits(w: PlainWork, f: Drawing, zoom: u8, m: Mode, left: u64) -> bool
             d2: w.d2,
         },
     };
-    spare & placed(f, zoom, m, left, arc)
+    let cycles = registers::rest_of(registers::arc_cycles_of(f) as u64, w.dot as u64);
+    let inside = placed(f, zoom, m, arc) & (left == cycles);
+    spare & inside
 }
 
 // What is in progress is formed and placed, with its count.

@@ -7,10 +7,10 @@ use Rattle.dots.specs.declared.Wiring.the-variants.{Folded, Open}
 use Rattle.script.specs.declared.Line.{Line}
 use Rattle.script.specs.declared.Line.the-variants as line
 use Rattle.orders.specs.declared.Order.{Order}
-use Rattle.orders.specs.declared.Order.the-variants.{Unknown, OfPort, OfMemory, OfShow, OfPaper, Translate, Draw, Wire}
+use Rattle.orders.specs.declared.Order.the-variants.{Unknown, OfPort, OfMemory, OfShow, OfPaper, Translate, Draw, Count, Wire}
 use Rattle.orders.specs.declared.Port.the-variants.{Command, Parameter, Pen, Read, Status}
 use Rattle.orders.specs.declared.Memory.the-variants.{Fresh, Word, Run}
-use Rattle.orders.specs.declared.Show.the-variants.{Registers, Words, Digest, Wired}
+use Rattle.orders.specs.declared.Show.the-variants.{Registers, Words, Digest, Counted, Wired}
 use Rattle.orders.specs.declared.Paper.the-variants.{Size, NoGlyphs, Glyphs, NoSheet, More}
 
 -- an order, if a number is at most the largest that the line takes
@@ -44,16 +44,21 @@ unfoldable pub sizeOrder : ℕ → ℕ → Order
 sizeOrder p h = upTo 0xFFFFFFFF p (upTo 0xFFFFFFFF h (OfPaper (Size p h)))
 
 -- "what a request adds to the register set is shown by `F` and, where no port can change it, put by `J`. In `F`, `J` the first field is
--- the request's number, written as it is printed": as every field it was read as hexadecimal. "F 108": "the wiring"
+-- the request's number, written as it is printed": as every field it was read as hexadecimal. "F 103": "the count of cycles left"; "F
+-- 108": "the wiring"
 unfoldable pub fieldOrder : ℕ → Order
-fieldOrder request = cond (eqb request 0x108) (OfShow Wired) Unknown
+fieldOrder request = cond (eqb request 0x103) (OfShow Counted) (cond (eqb request 0x108) (OfShow Wired) Unknown)
+
+-- "J 103 v": "the count in the register set becomes v (up to FFFFFFFF), true or not"
+unfoldable pub countOrder : ℕ → Order
+countOrder v = upTo 0xFFFFFFFF v (Count v)
 
 -- "J 108 v": "the wiring becomes v (0 or 1)", "0 folded, 1 open"
 unfoldable pub wiringOrder : ℕ → Order
 wiringOrder v = cond (eqb v 0) (Wire Folded) (cond (eqb v 1) (Wire Open) Unknown)
 
 unfoldable pub putOrder : ℕ → ℕ → Order
-putOrder request v = cond (eqb request 0x108) (wiringOrder v) Unknown
+putOrder request v = cond (eqb request 0x103) (countOrder v) (cond (eqb request 0x108) (wiringOrder v) Unknown)
 
 -- a letter alone: R, S, D, H, G, Z, X
 unfoldable pub bareOrder : ℕ → Order

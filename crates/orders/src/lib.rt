@@ -8,6 +8,7 @@ ghost use Rattle.orders.specs.Order.{
   wordOrder,
   sizeOrder,
   fieldOrder,
+  countOrder,
   wiringOrder,
   putOrder,
   bareOrder,
@@ -33,11 +34,12 @@ pub enum Memory {
     Run(u32),
 }
 
-// To be shown: the registers, words of the memory, its digest, its wiring.
+// To be shown: the registers, words of the memory, its digest; of the register set the count of cycles left, and the wiring.
 pub enum Show {
     Registers,
     Words(u64, u64),
     Digest,
+    Counted,
     Wired,
 }
 
@@ -50,7 +52,8 @@ pub enum Paper {
     More,
 }
 
-// What a line asks for; of the sheet its translation into a room of entries, and its drawing; of the board another wiring.
+// What a line asks for; of the sheet its translation into a room of entries, and its drawing; of the register set another count of cycles
+// left, or wiring.
 pub enum Order {
     Unknown,
     OfPort(Port),
@@ -59,6 +62,7 @@ pub enum Order {
     OfPaper(Paper),
     Translate(u32),
     Draw,
+    Count(u64),
     Wire(Wiring),
 }
 
@@ -122,9 +126,20 @@ fn field_order(request: u64) -> Order
     ensures { λ r. ⌜ r ≡ fieldOrder request ⌝ }
 {
     match request {
+        0x103 => Order::OfShow(Show::Counted),
         0x108 => Order::OfShow(Show::Wired),
         _ => Order::Unknown,
     }
+}
+
+// `J 103 v`
+fn count_order(v: u64) -> Order
+    ensures { λ r. ⌜ r ≡ countOrder v ⌝ }
+{
+    if 4294967295 < v {
+        return Order::Unknown;
+    }
+    Order::Count(v)
 }
 
 // `J 108 v`
@@ -143,6 +158,7 @@ fn put_order(request: u64, v: u64) -> Order
     ensures { λ r. ⌜ r ≡ putOrder request v ⌝ }
 {
     match request {
+        0x103 => count_order(v),
         0x108 => wiring_order(v),
         _ => Order::Unknown,
     }

@@ -288,7 +288,7 @@ pub fn rest_of(all: u64, done: u64) -> u64
 }
 
 // The dots of a character from this one on.
-fn character_left(f: Drawing, zoom: u8, row: u32, column: u32) -> u64
+pub fn character_left(f: Drawing, zoom: u8, row: u32, column: u32) -> u64
     ensures { λ n. ⌜ n ≡ characterLeft f zoom row column ⌝ }
 {
     let rows = rows_of(f, zoom) as u64;

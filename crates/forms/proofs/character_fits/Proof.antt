@@ -15,6 +15,9 @@ no-reading-requires c κs = search needs
 cursor-of-requires : tie.Need-cursor-of-requires
 cursor-of-requires c κs = search needs
 
+character-left-requires : tie.Need-character-left-requires
+character-left-requires c κs = search needs
+
 placed-requires : tie.Need-placed-requires
 placed-requires c κs = search needs
 
@@ -22,10 +25,11 @@ returns : tie.Need-returns
 returns c =
     rw (
       c .placed .ensures,
-      c .before .cursor-of .ensures,
-      c .before .before .no-reading .ensures,
-      c .before .before .before .no-arc .ensures,
-      c .before .before .before .before .no-figure .ensures,
+      c .before .character-left .ensures,
+      c .before .before .cursor-of .ensures,
+      c .before .before .before .no-reading .ensures,
+      c .before .before .before .before .no-arc .ensures,
+      c .before .before .before .before .before .no-figure .ensures,
     )
 
 pub character-fits-spec : {M : Type 1} → statement M
@@ -36,5 +40,6 @@ character-fits-spec =
     no-arc-requires
     no-reading-requires
     cursor-of-requires
+    character-left-requires
     placed-requires
     returns)

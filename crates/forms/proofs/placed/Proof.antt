@@ -9,16 +9,12 @@ place-fits-requires c κs = search needs
 work-fits-requires : tie.Need-work-fits-requires
 work-fits-requires c κs = search needs
 
-cycles-left-requires : tie.Need-cycles-left-requires
-cycles-left-requires c κs = search needs
-
 returns : tie.Need-returns
 returns c =
     rw (
-      c .cycles-left .ensures,
-      c .before .work-fits .ensures,
-      c .before .before .place-fits .ensures,
+      c .work-fits .ensures,
+      c .before .place-fits .ensures,
     )
 
 pub placed-spec : {M : Type 1} → statement M
-placed-spec = tie.close (tie.spec place-fits-requires work-fits-requires cycles-left-requires returns)
+placed-spec = tie.close (tie.spec place-fits-requires work-fits-requires returns)
