@@ -44,9 +44,9 @@ class CountingBench(Bench):
             reached("refusal 2" if answer == "M 2" else "memory of %d words" % len(self.chip.memory))
         if letter in ("M", "O"):
             count_new_memory(letter, fields[0], answer, wiring, len(self.chip.memory))
-        if letter == "J":
+        if letter == "J" and fields[0] == "108":
             count_put(self.chip, wiring)
-        if letter == "F":
+        if letter == "F" and fields[0] == "108":
             reached("F 108 gives %d" % wiring)
         if letter in ("T", "X"):
             self.count_sheet(letter, line, [int(field, 16) for field in answer.split(" ")[1:4]])
