@@ -6,9 +6,9 @@ and the geometry (plane.py), all written from the paper alone.
 
     python3 bench.py < script > answers
 
-When a sheet is drawn (`X`) from a controller in write mode, with an empty
-buffer, nothing being drawn and a picture that fits, the memory afterwards is
-the one that the geometry paints, and an `assert` holds the controller to it.
+When a sheet is drawn (`X`) from a sound controller in write mode, with an
+empty buffer, nothing being drawn and a picture that fits, the memory afterwards
+is the one that the geometry paints, and an `assert` holds the controller to it.
 Under open wiring a larger picture is held to it too, cut off at the length.
 """
 
