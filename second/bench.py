@@ -6,9 +6,9 @@ and the geometry (plane.py), all written from the paper alone.
 
     python3 bench.py < script > answers
 
-When a sheet is drawn (`X`) from a controller in write mode, with an empty
-buffer, nothing being drawn and a picture that fits, the memory afterwards is
-the one that the geometry paints, and an `assert` holds the controller to it.
+When a sheet is drawn (`X`) from a sound controller in write mode, with an
+empty buffer, nothing being drawn and a picture that fits, the memory afterwards
+is the one that the geometry paints, and an `assert` holds the controller to it.
 Under open wiring a larger picture is held to it too, cut off at the length.
 """
 
@@ -51,11 +51,12 @@ def some_bytes(text):
     return bytes.fromhex(text)
 
 
-def wirings_alone(request):
+def field_of(request):
     # "In `F`, `J` the first field is the request's number, written as it is
     # printed". The other requests that have a field have not landed.
-    if request != "108":
+    if request not in FIELDS:
         raise Malformed
+    return FIELDS[request]
 
 
 def two_digits(values):
@@ -126,16 +127,34 @@ class Bench:
         return "O 0"
 
     def show_field(self, request):
-        # "`F 108` | the wiring": "0 folded, 1 open"
-        wirings_alone(request)
-        return "F 108 %X" % self.chip.wiring
+        show, _ = field_of(request)
+        return "F %s %X" % (request, show(self))
 
     def put_field(self, request, value):
+        # "`D`, `J`, `M` and the fields in `F` do not ask whether the set is
+        # sound". The rest of the set stays.
+        _, put = field_of(request)
+        put(self, value)
+        return "J 0"
+
+    def show_left(self):
+        # "`F 103` | the count of cycles left | `F 103 left` (up to nine
+        # digits)": the count as it is kept, true or not.
+        return self.chip.left
+
+    def put_left(self, value):
+        # "the count in the register set becomes v (up to FFFFFFFF), true or
+        # not"
+        self.chip.left = number(value, LARGEST)
+
+    def show_wiring(self):
+        # "`F 108` | the wiring": "0 folded, 1 open"
+        return self.chip.wiring
+
+    def put_wiring(self, value):
         # "`J 108 v` | the wiring becomes v (0 or 1); the memory stays, of
         # whatever length"
-        wirings_alone(request)
         self.chip.wiring = number(value, 1)
-        return "J 0"
 
     def set_word(self, place, value):
         place = number(place, len(self.chip.memory) - 1)
@@ -143,19 +162,19 @@ class Bench:
         return "W 0"
 
     def command_byte(self, byte):
-        return "C %X" % self.chip.command_port(number(byte, 0xFF))
+        return "C %X" % self.chip.command_call(number(byte, 0xFF))
 
     def parameter_byte(self, byte):
-        return "P %X" % self.chip.parameter_port(number(byte, 0xFF))
+        return "P %X" % self.chip.parameter_call(number(byte, 0xFF))
 
     def read_byte(self):
-        return "R %X %X" % self.chip.read_byte()
+        return "R %X %X" % self.chip.read_call()
 
     def status(self):
-        return "S %X" % self.chip.status()
+        return "S %X" % self.chip.status_call()
 
     def light_pen(self, address):
-        return "L %X" % self.chip.post_pen(number(address, LARGEST))
+        return "L %X" % self.chip.pen_call(number(address, LARGEST))
 
     def run(self, budget):
         return "U %X %X %X" % self.chip.run_call(number(budget, LARGEST))
@@ -234,10 +253,10 @@ class Bench:
         return "X 0 %X 0 %X" % (len(entries), units)
 
     def may_be_held_to_the_geometry(self):
-        # Write mode, buffer empty, nothing being drawn, no run refused, and
-        # the picture fits. Open wiring loses what does not fit, no more.
+        # Sound, write mode, buffer empty, nothing being drawn, no run refused,
+        # and the picture fits. Open wiring loses what does not fit, no more.
         chip = self.chip
-        return (chip.mode == WRITE_MODE and not chip.buffer and chip.figure is None
+        return (chip.sound() and chip.mode == WRITE_MODE and not chip.buffer and chip.figure is None
                 and lawful_length(len(chip.memory), chip.wiring)
                 and (chip.wiring == OPEN or self.picture_size_in_words() <= len(chip.memory)))
 
@@ -255,18 +274,19 @@ class Bench:
     def send_all(self, entries):
         # "an entry that is refused is passed over". The ports do not look at
         # the memory's length: where it is wrong the runs alone are refused,
-        # the entries wait, and from the seventeenth on they get 3.
+        # the entries wait, and from the seventeenth on they get 3. An unsound
+        # set: "each entry is refused and passed over, each run refused".
         units = 0
         for entry in entries:
             if entry >= 256:
-                self.chip.command_port(entry - 256)
+                self.chip.command_call(entry - 256)
             else:
-                self.chip.parameter_port(entry)
+                self.chip.parameter_call(entry)
             units += self.run_until_idle()
         return units
 
     def run_until_idle(self):
-        # A read that awaits room stops the run too, and so does refusal 2.
+        # A read that awaits room stops the run too, and so does a refusal.
         units = 0
         reason = BUDGET_SPENT
         while reason == BUDGET_SPENT:
@@ -297,6 +317,12 @@ OPERATIONS = {
     "X": (0, 0, Bench.draw_sheet),
     "F": (1, 1, Bench.show_field),
     "J": (2, 2, Bench.put_field),
+}
+
+# For each request that adds a field to the register set: what shows it, what puts it.
+FIELDS = {
+    "103": (Bench.show_left, Bench.put_left),
+    "108": (Bench.show_wiring, Bench.put_wiring),
 }
 
 

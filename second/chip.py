@@ -1,30 +1,31 @@
 """The controller: the uPD7220 as document 01 describes it.
 
 This is a part of the SECOND PROGRAM. It was written from the paper alone
-(document 01, requests M-100, M-101 and M-108 of document 02, NEC's sheet 002,
-the readings) and never from the proved program, so that the two can be held
+(document 01, requests M-100, M-101, M-103 and M-108 of document 02, NEC's sheet
+002, the readings) and never from the proved program, so that the two can be held
 against each other. It is plain and slow on purpose. Above or in each function
 stands the sentence of the paper that it puts into Python; names are 01's
 words.
 
-A `Chip` holds the register set and the display memory. The host uses
-`command_port`, `parameter_port`, `read_byte`, `status` and `post_pen`;
-`run_call` judges the memory's length, and `run` does the units.
+A `Chip` holds the register set and the display memory. Its entries are
+`command_port`, `parameter_port`, `read_byte`, `status`, `post_pen` and `run`; the
+host has them by the calls of calls.py, which refuse an unsound set and, for a
+run, a wrong length of the memory.
 """
 
+from calls import ACCEPTED, Calls
 from commands import NAMES, WORD, with_high_byte, with_low_byte
 from figures import Figures
+from left import Left
 from reads import READ_MODE, WRITE_MODE, Reads
 from steps import logic_unit
-from wiring import FOLDED, Wiring, lawful_length
+from wiring import FOLDED, Wiring
 from writes import Writes
 
 FOURTEEN_BITS = 0x3FFF       # "DC, D, D2, D1, DM 14 bits."
 BUFFER_SIZE = 16             # "the 16-entry buffer"
 
-# The numbers of refusal that a port or a run can give.
-ACCEPTED = 0
-WRONG_LENGTH = 2             # "memory length wrong"
+# The numbers of refusal that a port can give to a sound set.
 BUFFER_FULL = 3              # "write mode and buffer holds 16, RESET excepted"
 PARAMETER_IN_READ_MODE = 4   # "parameter byte in read mode"
 NO_BYTE = 5                  # "read with no byte to give"
@@ -38,7 +39,7 @@ READ_AWAITS_ROOM = 3
 
 # ---------------------------------------------------------------- the chip
 
-class Chip(Figures, Reads, Writes, Wiring):
+class Chip(Calls, Figures, Left, Reads, Writes, Wiring):
 
     def __init__(self, length, wiring=FOLDED):
         self.memory = [0] * length
@@ -60,6 +61,7 @@ class Chip(Figures, Reads, Writes, Wiring):
         self.taken = 0            # parameters taken since the command
         self.half_word = None     # the low byte of a half-sent WDAT word
         self.figure = None
+        self.left = 0             # cycles of the figure that are still to come
         self.read = None
         self.wiring = FOLDED      # 0: no port changes it, RESET keeps it
         self.fresh_figure_numbers()
@@ -102,6 +104,7 @@ class Chip(Figures, Reads, Writes, Wiring):
         self.buffer = []
         self.mode = WRITE_MODE
         self.figure = None
+        self.left = 0             # "Every entry keeps it true, RESET too"
         self.read = None
         self.display = 0
         self.begin_command(0x00)
@@ -147,13 +150,6 @@ class Chip(Figures, Reads, Writes, Wiring):
         return ACCEPTED
 
     # ------------------------------------------------------------- units
-
-    def run_call(self, budget):
-        # "Refusals: 2 depends on the wiring": at each call, on the wiring as
-        # it stands. A refused run does no unit and has no reason: both are 0.
-        if not lawful_length(len(self.memory), self.wiring):
-            return WRONG_LENGTH, 0, 0
-        return (ACCEPTED, *self.run(budget))
 
     def run(self, budget):
         # "A run does units until its 32-bit budget is spent, nothing is in

@@ -73,9 +73,11 @@ class Figures:
 
     def start_figure(self, kind, dots, passed=0):
         # "A figure of no dots ... changes nothing more and ends in the unit
-        # that takes its command."
+        # that takes its command." The count of cycles left (M-103) is all of
+        # them after that unit; "passed over without a cycle" are none.
         if dots > 0:
             self.figure = Figure(self, kind, dots, passed)
+            self.left = dots
 
     def figure_cycle(self):
         # "One step between consecutive dots, none after the last; it, or a
@@ -92,6 +94,7 @@ class Figures:
         # "... for all masked bits."
         self.memory_cycle(0xFFFF if bit else 0x0000)
         figure.place += 1
+        self.left -= 1
         if figure.place == figure.dots:
             self.figure = None
         else:

@@ -12,6 +12,7 @@ from bench import Bench, digest
 from checking import check, summary, talk
 from commands import NAMES
 from plane import border_dots, circle_dots, dots, glyph_dots, line_dots
+from selfcheck_left import check_cycles_left
 from selfcheck_writes import check_bit_mapped_work
 from sheet import CIRCLE, DOT, GLYPH, LINE, RECTANGLE, Figure, Picture, block_sum, translate
 from steps import logic_unit, step, whole_word_move
@@ -553,6 +554,7 @@ def main():
     check_wiring_at_each_call()
     check_sheets_on_odd_boards()
     check_bit_mapped_work()
+    check_cycles_left()
     return summary()
 
 

@@ -79,6 +79,8 @@ def count_run_call(chip, budget, number):
 
 def count_put(chip, before):
     # J 108, done; `before` is the wiring before it.
+    if chip.figure is not None:
+        chip.lately.add("J 108 in a figure")
     reached("wiring put %s %s" % (WIRING_NAMES[chip.wiring], state_of(chip)))
     if before == chip.wiring:
         reached("wiring put as it stands, " + WIRING_NAMES[before])
@@ -104,6 +106,8 @@ def count_new_memory(letter, text, answer, before, length):
 def count_x_of_wirings(bench):
     # An accepted sheet is about to be drawn.
     chip = bench.chip
+    if not chip.sound():
+        return
     if not lawful_length(len(chip.memory), chip.wiring):
         reached("X with its runs refused")
         reached("X with its runs refused, " + ("in read mode" if chip.mode == READ_MODE else state_of(chip)))
@@ -121,4 +125,4 @@ def count_x_of_wirings(bench):
 
 def count_malformed_field(letter, fields):
     if letter in ("F", "J") and fields:
-        reached("? for %s %s" % (letter, "108" if fields[0] == "108" else "of no request or another"))
+        reached("? for %s %s" % (letter, fields[0] if fields[0] in ("103", "108") else "of no request or another"))

@@ -10,8 +10,9 @@ sys.path.insert(0, os.path.join(HERE, os.pardir, "second"))
 import figures as figures_module     # noqa: E402
 from chip import Chip                # noqa: E402
 from commands import NAMES           # noqa: E402
+from counted_left import CountedCalls  # noqa: E402
 from counted_wirings import (  # noqa: E402
-    count_crossing, count_meeting, count_move, count_run_call, count_transfer, over_the_end, where_met)
+    count_crossing, count_meeting, count_move, count_transfer, over_the_end, where_met)
 from counted_writes import count_beside, count_change, count_set, kind_of_work  # noqa: E402
 from figures import signed, wrapped  # noqa: E402
 from reads import READ_MODE, WRITE_MODE  # noqa: E402
@@ -21,7 +22,7 @@ from rows import (  # noqa: E402
 from wiring import OPEN              # noqa: E402
 
 
-class CountingChip(Chip):
+class CountingChip(CountedCalls):
 
     older_gd = False             # whether the last FIGS left GD as it was
     last_work = None             # the kind of work of the last WDAT set
@@ -54,6 +55,7 @@ class CountingChip(Chip):
         if self.figure is not None:
             reached("RESET in a figure")
             reached(self.figure.kind + " cut by RESET")
+            self.lately.add("RESET in a figure: " + self.figure.kind)
             self.count_stop("RESET")
         if self.read is not None:
             reached("RDAT %s ended by RESET" % TRANSFERS[self.read.transfer])
@@ -104,11 +106,6 @@ class CountingChip(Chip):
             reached("pen replaced")
         return answer
 
-    def run_call(self, budget):
-        answer = Chip.run_call(self, budget)
-        count_run_call(self, budget, answer[0])
-        return answer
-
     def run(self, budget):
         begun = self.figure is not None and self.figure.place > 0
         done, reason = Chip.run(self, budget)
@@ -152,6 +149,8 @@ class CountingChip(Chip):
         if name == "LPRD" and self.pen_set:
             reached("LPRD clears bit 7")
         Chip.take_command(self, byte)
+        if name in ("FIGD", "GCHRD") and self.figure is None:
+            self.lately.add(name + " that draws nothing")
         if name == "RDAT" and self.read is None:
             reached("RDAT %s of no items" % TRANSFERS[byte >> 3 & 3])
 
@@ -202,6 +201,7 @@ class CountingChip(Chip):
         before = self.ead
         count_transfer(self, "WDAT", self.command >> 3 & 3)
         Chip.write_set(self, pattern)
+        self.lately.add("a WDAT set")
         count_move(self, "WDAT", before)
 
     def read_item(self):
@@ -215,6 +215,7 @@ class CountingChip(Chip):
         if transfer != 0 and held == 15:
             reached("RDAT %s goes on at 15" % TRANSFERS[transfer])
         Chip.read_item(self)
+        self.lately.add("an RDAT item")
         count_move(self, "RDAT", before)
         if self.read is None:
             reached("RDAT %s completed" % TRANSFERS[transfer])
@@ -259,6 +260,7 @@ class CountingChip(Chip):
                 reached("character: more than 2^32 units")
         Chip.start_figure(self, kind, dots, passed)
         if self.figure is not None:
+            self.lately.clear()
             count_beside(self, kind)
             factor = self.figure.factor
             self.figure.marks = wide_marks((self.dc + 1) * factor, self.d * factor) if kind == "character" else {}
@@ -270,6 +272,7 @@ class CountingChip(Chip):
         Chip.figure_cycle(self)
         if self.figure is None:
             reached(kind + " ends in its last dot")
+            self.lately.add("the last cycle: " + kind)
 
     def figure_step(self, figure):
         if figure.kind == "line":

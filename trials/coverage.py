@@ -15,6 +15,7 @@ sys.path.insert(0, os.path.join(HERE, os.pardir, "second"))
 
 from bench import OPERATIONS, Bench  # noqa: E402
 from reads import READ_MODE          # noqa: E402
+from counted_left import count_anew, count_left_put, count_other_lines, count_shown, count_x_of_counts  # noqa: E402
 from counted_wirings import count_malformed_field, count_new_memory, count_put, count_x_of_wirings  # noqa: E402
 from counted_writes import count_beside  # noqa: E402
 from counting import CountingChip, settle  # noqa: E402
@@ -32,9 +33,10 @@ class CountingBench(Bench):
     def count_line(self, line):
         if line[:1] == "X" and len(line) == 1:
             self.count_start_of_x()
-        wiring = self.chip.wiring
+        wiring, left, sound, figure = self.chip.wiring, self.chip.left, self.chip.sound(), self.chip.figure is not None
         answer = self.answer(line)
         letter, *fields = line.split(" ")
+        count_other_lines(letter, fields, answer, sound)
         if answer == "?":
             self.count_malformed(line, letter)
             count_malformed_field(letter, fields)
@@ -44,12 +46,28 @@ class CountingBench(Bench):
             reached("refusal 2" if answer == "M 2" else "memory of %d words" % len(self.chip.memory))
         if letter in ("M", "O"):
             count_new_memory(letter, fields[0], answer, wiring, len(self.chip.memory))
-        if letter == "J":
-            count_put(self.chip, wiring)
-        if letter == "F":
-            reached("F 108 gives %d" % wiring)
+            count_anew(letter, self.chip, answer, sound, figure)
+        if letter in ("F", "J"):
+            self.count_field(letter, fields, wiring, left)
         if letter in ("T", "X"):
             self.count_sheet(letter, line, [int(field, 16) for field in answer.split(" ")[1:4]])
+
+    def count_field(self, letter, fields, wiring, left):
+        # F or J, done; the wiring and the count before it.
+        if letter == "J" and fields[0] == "108":
+            count_put(self.chip, wiring)
+        elif letter == "J":
+            count_left_put(self.chip, fields[1], left)
+        elif fields[0] == "108":
+            reached("F 108 gives %d" % wiring)
+        else:
+            count_shown(self.chip)
+
+    def send_all(self, entries):
+        self.chip.by_x = True
+        units = Bench.send_all(self, entries)
+        self.chip.by_x = False
+        return units
 
     def count_malformed(self, line, letter):
         if len(line) > 20000:
@@ -68,6 +86,7 @@ class CountingBench(Bench):
             return
         chip = self.chip
         count_x_of_wirings(self)
+        count_x_of_counts(self)
         if self.may_be_held_to_the_geometry():
             reached("X held to the geometry")
             count_beside(chip, "X held to the geometry")

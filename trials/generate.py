@@ -12,7 +12,7 @@ Each episode has a random seed of its own, of S, its kind and its number among
 its kind; so a new kind puts its episodes between the others and changes none
 of them. What one episode leaves to the next are the memory's length, the
 picture's size and the number of glyphs: a new kind that sets them for itself
-puts them back, and the folded wiring with the length.
+puts them back, and the folded wiring and a true count with the length.
 
 The generator knows the language and the layout of commands and sheets; it
 never runs the second program. It keeps the work bounded: a run with an
@@ -27,7 +27,7 @@ import random
 import sys
 
 from casebook import expand_cases
-from wirings import Wirings
+from counts import Counts
 
 # The weight table: how many of each kind are taken while others take theirs.
 WEIGHTS = {
@@ -50,10 +50,12 @@ WEIGHTS = {
     "damaged_circles": 6,   # a sheet with circles and faults in them
     "odd_board": 16,        # open wiring, odd lengths, the wiring put in the midst of work
     "odd_sheet": 8,         # a lawful sheet on a board of its size, or of a few words less
+    "cycles_left": 12,      # a figure or other work, the cycles left asked after its units
+    "false_count": 14,      # counts put, true and false, with entries between
 }
 
 
-class Generator(Wirings):
+class Generator(Counts):
     """Random episodes of every kind."""
 
     def random_operations(self, seed, wanted):

@@ -1,12 +1,13 @@
 """The mutants: does a script tell a wrong program from the right one?
 
-    python3 mutants.py SCRIPT EXPECTED
+    python3 mutants.py SCRIPT EXPECTED [FILE...]
 
-applies each mutant of the folder `mutants` to a temporary copy of the folder
-`second`, runs it on SCRIPT and holds its output against EXPECTED, which is
-the output of the second program as it is. A mutant is stopped at its first
-differing line. All must be told apart: otherwise the exit status is 1 and
-those that were not are named. Two run at a time.
+applies each mutant of the folder `mutants`, or of those of its files that are
+named, to a temporary copy of the folder `second`, runs it on SCRIPT and holds
+its output against EXPECTED, which is the output of the second program as it is.
+A mutant is stopped at its first differing line. All must be told apart:
+otherwise the exit status is 1 and those that were not are named. Two run at a
+time.
 
 Python's `assert` is switched off (-O), so that a mutant is told apart by its
 answers and not by the second program's own cross-check.
@@ -98,13 +99,14 @@ def work(mutants, script, expected, results):
 
 
 def main():
-    if len(sys.argv) != 3:
+    if len(sys.argv) < 3:
         print(__doc__)
         return 2
     with open(sys.argv[2], "rb") as file:
         expected = file.read().splitlines(keepends=True)
     folder = os.path.join(HERE, "mutants")
-    mutants = [one for name in sorted(os.listdir(folder)) for one in read_mutants(os.path.join(folder, name))]
+    names = sys.argv[3:] or sorted(os.listdir(folder))
+    mutants = [one for name in names for one in read_mutants(os.path.join(folder, name))]
     waiting, results = list(enumerate(mutants)), {}
     start = time.time()
     threads = [threading.Thread(target=work, args=(waiting, sys.argv[1], expected, results))

@@ -42,6 +42,13 @@ WORK_KINDS = ["all bits", "bit-mapped"]
 OTHER_SYNC_BITS = [7, 6, 4, 3, 2, 0]
 DROPPERS = ["WDAT", "RESET", "unknown", "another command"]
 
+# How much of a figure is left where the count is shown; what a count is that is
+# put; who refuses a false one, and which lines have no part in it.
+LEFT_AT = ["all of it", "some of it", "its last cycle"]
+PUT_COUNTS = ["true", "one more", "one less", "0", "other"]
+CALLS = ["RESET", "a command", "a parameter", "a read", "the status", "the pen", "a run", "a run of budget 0"]
+LINES_THAT_DO_NOT_ASK = ["D", "F", "H", "J", "V", "W", "Q", "G", "Z", "B", "T", "M", "O"]
+
 # Dots of a character by which a program with narrower numbers is told.
 PAST_WIDTH = "on past its row's dots modulo 65,536"
 PAST_ROWS = "on past its rows modulo 65,536"
@@ -109,7 +116,8 @@ def rows():
         if row not in table:
             table.append(row)
     table += rows_of_parameters() + rows_of_figures() + rows_of_steps()
-    table += rows_of_reads() + rows_of_ports() + rows_of_sheets() + rows_of_wirings() + rows_of_sets() + rows_of_language()
+    table += rows_of_reads() + rows_of_ports() + rows_of_sheets() + rows_of_wirings() + rows_of_sets()
+    table += rows_of_counts() + rows_of_false_counts() + rows_of_language()
     return table
 
 
@@ -274,7 +282,7 @@ def rows_of_wired_sheets():
     table += ["X of a picture %s an open memory%s" % (what, which)
               for what in ("that fits exactly", "smaller than", "larger than") for which in odd]
     table += ["X held to the geometry under open wiring" + which for which in odd]
-    table += ["? for %s %s" % (letter, what) for letter in "FJ" for what in ("108", "of no request or another")]
+    table += ["? for %s %s" % (letter, what) for letter in "FJ" for what in ("103", "108", "of no request or another")]
     return table
 
 
@@ -294,6 +302,42 @@ def rows_of_sets():
     table += ["bit-mapped: %s %s of an open memory" % (t, where) for t in transfers for where in WHERES]
     table += ["bit-mapped: half word dropped by " + name for name in DROPPERS]
     table += ["bit-mapped: " + what for what in KINDS + ["RDAT " + t for t in transfers] + ["X held to the geometry"]]
+    return table
+
+
+def rows_of_counts():
+    table = ["left of %s, %s" % (kind, what) for kind in KINDS for what in LEFT_AT]
+    table += ["left of a character by %d" % factor for factor in range(1, 17)]
+    table += ["left of a character in a later row"]
+    table += ["left of an arc, dots passed over, " + what for what in LEFT_AT[:2]]
+    table += ["left: %d" % count for count in (2 ** 32 - 1, 2 ** 32, 68715282432)]
+    table += ["left shown " + state for state in STATES[:3]]
+    table += ["left shown after %s: %s" % (what, kind) for what in ("the last cycle", "RESET in a figure") for kind in KINDS]
+    table += ["left shown after refusal %d" % number for number in (1, 2, 3, 5, 6)]
+    table += ["left shown after " + what for what in (
+        "a WDAT set", "an RDAT item", "FIGD that draws nothing", "GCHRD that draws nothing", "J 108 in a figure")]
+    for letter in "MO":
+        table += ["%s %s in a figure" % (letter, what) for what in ("taken", "refused")]
+        table += ["left shown after %s %s in a figure" % (letter, what) for what in ("taken", "refused")]
+    return table
+
+
+def rows_of_false_counts():
+    table = ["count put, %s, %s" % (what, kind) for what in PUT_COUNTS for kind in KINDS]
+    table += ["count put, %s, %s" % (what, state) for what in ("true", "one more", "other") for state in STATES[:3]]
+    table += ["count put" + what for what in (
+        " that is true in 32 bits", ", the largest", " with leading zeros", " that is a character's rows",
+        " with an arc's dots passed over")]
+    table += ["refusal 1: %s %s" % (call, state) for call in CALLS for state in STATES]
+    table += ["refusal 1 before %d" % number for number in (2, 3, 4, 5, 6)]
+    table += ["left shown false " + state for state in STATES]
+    table += ["X with a false count, " + what for what in STATES[:2] + STATES[3:] + [
+        "in read mode", "with a full buffer", "its runs refused by 2 as well"]]
+    table += ["with a false count: " + what for what in ["?"] + LINES_THAT_DO_NOT_ASK if what not in ("F", "J")]
+    table += ["with a false count: %s %s" % (letter, request) for letter in "FJ" for request in ("103", "108")]
+    table += ["with a false count: X of a sheet that is " + what for what in ("accepted", "refused")]
+    table += ["%s %s with a false count" % (letter, what) for letter in "MO" for what in ("taken", "refused")]
+    table += ["false count healed by J 103"]
     return table
 
 

@@ -72,7 +72,7 @@ class Wirings(Curves):
         if self.chance(0.1):
             self.emit(self.pick(["O", "M"]), self.pick(UNLAWFUL_LENGTHS))
         if self.chance(0.1):
-            self.emit(self.pick(["F", "F 107", "F 108 1", "F 1080", "J 108", "J 108 2", "J 108 0 1", "J 103 1", "J 0", "O",
+            self.emit(self.pick(["F", "F 107", "F 108 1", "F 1080", "J 108", "J 108 2", "J 108 0 1", "J 104 1", "J 0", "O",
                                  "O G", "O 10 0", "O 100000000"]))
 
     # -- sheets
