@@ -10,17 +10,21 @@ use Rattle.wirings.specs.Wired.{wiredAs}
 use Rattle.console.specs.declared.desk.Done.{Done}
 use Rattle.console.specs.declared.desk.Reply.the-variants.{One}
 
--- `J 103 v`: "the count in the register set becomes v (up to FFFFFFFF), true or not": "`J 0`"
+-- a field is put: "`J 0`"
+abbrev pub fieldPut : Registers → Done
+fieldPut r = record { regs = r; reply = One 74 0 }
+
+-- `J 103 v`: "the count in the register set becomes v (up to FFFFFFFF), true or not"
 abbrev pub countDone : Registers → ℕ → Done
-countDone r n = record { regs = putRemaining r n; reply = One 74 0 }
+countDone r n = fieldPut (putRemaining r n)
 
 -- "`F 103 left`"
 abbrev pub countFields : Registers → List ℕ
 countFields r = 0x103 ∷ r .remaining ∷ []
 
--- `J 108 v`: "the wiring becomes v (0 or 1); the memory stays, of whatever length": "`J 0`"
+-- `J 108 v`: "the wiring becomes v (0 or 1); the memory stays, of whatever length"
 abbrev pub wiringDone : Registers → Wiring → Done
-wiringDone r w = record { regs = wiredAs w r; reply = One 74 0 }
+wiringDone r w = fieldPut (wiredAs w r)
 
 -- "0 folded, 1 open"
 abbrev pub wiringNumber : Wiring → ℕ

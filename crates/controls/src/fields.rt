@@ -4,7 +4,17 @@ use console::desk::Reply;
 use dots::Wiring;
 use registers::Registers;
 ghost use mathlib.Core.Path.{_≡_};
-ghost use Rattle.controls.specs.Fields.{countDone, countFields, wiringDone, wiringNumber, wiringFields};
+ghost use Rattle.controls.specs.Fields.{fieldPut, countDone, countFields, wiringDone, wiringNumber, wiringFields};
+
+// A field is put.
+fn put(r: Registers) -> Done
+    ensures { λ q. ⌜ q ≡ fieldPut r ⌝ }
+{
+    Done {
+        regs: r,
+        reply: Reply::One(b'J', 0),
+    }
+}
 
 // `J 103 v`
 pub fn count_done(r: Registers, v: u64) -> Done
@@ -12,10 +22,7 @@ pub fn count_done(r: Registers, v: u64) -> Done
 {
     let mut n = r;
     n.remaining = v;
-    Done {
-        regs: n,
-        reply: Reply::One(b'J', 0),
-    }
+    put(n)
 }
 
 // The numbers of the answer to `F 103`; the request's has its decimal digits when it is written in hexadecimal.
@@ -29,10 +36,7 @@ pub fn count_fields(r: Registers) -> [u64; 2]
 pub fn wiring_done(r: Registers, w: Wiring) -> Done
     ensures { λ q. ⌜ q ≡ wiringDone r w ⌝ }
 {
-    Done {
-        regs: wirings::wired(r, w),
-        reply: Reply::One(b'J', 0),
-    }
+    put(wirings::wired(r, w))
 }
 
 fn wiring_number(w: Wiring) -> u64

@@ -1,15 +1,11 @@
 -- The form of what is in progress, field by field as `work_formed` tests it, is the form kind by kind: at each kind both compute, and any
 -- other number is no kind.
 use mathlib.Core.Path.{_≡_, refl, ap}
-use mathlib.Core.Bool.{Bool, true, false, cond, not, _&&_, _||_}
+use mathlib.Core.Bool.{Bool, true, false, cond, not, and-true, _&&_, _||_}
 use Prim.Native.Nat.{ℕ, zero, suc}
 use native.Mathlib.Omega.{arith}
 use lib.Dec.{eqb, ltb}
 use borrow.Author.Tests.{le-ltb, ne-eqb}
-
-pub and-true : (a : Bool) → (a && true) ≡ a
-and-true true = refl
-and-true false = refl
 
 -- the figure's fields, an arc's two, a character's and a read's are nothing; the transfer is one
 pub form-by-field : (k : ℕ) (f a c r t : Bool)

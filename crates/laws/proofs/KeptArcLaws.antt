@@ -17,8 +17,8 @@ use Rattle.arcs.specs.declared.Moving.{Moving}
 use Rattle.arcs.specs.Arc.{movedOn}
 use Rattle.arcs.specs.Unit.{moving, meets, arcMoved, arcUnit}
 use Rattle.laws.proofs.BranchLaws.{either, cases}
-use Rattle.units.specs.Unit.{oneFewer}
-use Rattle.laws.proofs.KeptLaws.{Going, SoundSet, Whole, fewer, cursor-kept, work-kept, ends, cycle-kept}
+use Rattle.units.specs.Unit.{fewerLeft, oneFewer}
+use Rattle.laws.proofs.KeptLaws.{Going, SoundSet, Whole, cursor-kept, work-kept, ends, cycle-kept}
 use Rattle.laws.proofs.KeptMoveLaws.{MovingFits, moved-fits, passed-fits}
 
 module _ {board : Board} (r : Registers) (l : SoundSet board r) (k : ℕ) (a : Running) (e : r .work ≡ Arc k a) where
@@ -36,12 +36,12 @@ module _ {board : Board} (r : Registers) (l : SoundSet board r) (k : ℕ) (a : R
   there : SoundSet board (putCursor r (met .cursor))
   there = cursor-kept r l (met .cursor) (met-fits .cursor)
 
-  arc-moves : SoundSet board (fewer (arcMoved k met r))
+  arc-moves : SoundSet board (fewerLeft (arcMoved k met r))
   unfolding arcMoved
   arc-moves =
       let next = movedOn (r .drawing .dir) (r .pitch) met in
       let s : MovingFits next = moved-fits (r .drawing .dir) (r .pitch) met met-fits in
-      cases (λ (q : Registers). SoundSet board (fewer q)) (ltb (k + 1) (arcCyclesOf (r .drawing)))
+      cases (λ (q : Registers). SoundSet board (fewerLeft q)) (ltb (k + 1) (arcCyclesOf (r .drawing)))
       (λ t. work-kept (putCursor r (next .cursor)) (cursor-kept r l (next .cursor) (s .cursor)) (r .remaining - 1)
       (Arc (k + 1) (next .running))
       (record {
@@ -59,5 +59,5 @@ arc-kept n k a s w e =
     let r = s .regs in
     let c = met r (w .regs) k a e .cursor in
     cycle-kept n (r .board .wiring) (r .op) (patternAt (r .ram) (r .drawing .dm + k)) (putCursor r c)
-    (fewer (arcMoved k (met r (w .regs) k a e) r)) (s .mem)
+    (fewerLeft (arcMoved k (met r (w .regs) k a e) r)) (s .mem)
     (record { regs = there r (w .regs) k a e; words = w .words; long = w .long }) (arc-moves r (w .regs) k a e)

@@ -28,8 +28,8 @@ use Rattle.figures.specs.Figure.{patternAt, negative, errorAfter, directionAt, 
 use Rattle.figures.specs.Character.{characterPattern, nextStart, characterMoved, characterUnit}
 use Rattle.figures.specs.Reading.{roomB, given, readOn, itemGiven, readUnit}
 use Rattle.laws.proofs.BranchLaws.{either, cases}
-use Rattle.units.specs.Unit.{oneFewer}
-use Rattle.laws.proofs.KeptLaws.{Queue, Going, SoundSet, Whole, fewer, cursor-kept, buffer-kept, work-kept, ends, met-below}
+use Rattle.units.specs.Unit.{fewerLeft, oneFewer}
+use Rattle.laws.proofs.KeptLaws.{Queue, Going, SoundSet, Whole, cursor-kept, buffer-kept, work-kept, ends, met-below}
 use Rattle.laws.proofs.KeptLaws.{cycle-kept}
 use Rattle.laws.proofs.KeptBufferLaws.{pushed-queue}
 use Rattle.laws.proofs.KeptProcessorLaws.{word-fits}
@@ -43,12 +43,12 @@ running-below f d h =
     (either (λ (x : ℕ). x < 16384) (negative d) (omega arith) (omega arith)) h
 
 module _ {board : Board} (r : Registers) (l : SoundSet board r) (k d : ℕ) (e : r .work ≡ Figure k d) where
-  figure-moves : SoundSet board (fewer (figureMoved k d r))
+  figure-moves : SoundSet board (fewerLeft (figureMoved k d r))
   unfolding figureMoved
   figure-moves =
       let g : Going (r .drawing) (r .video .zoom) (r .mode) (r .remaining) (Figure k d) = rw e at (l .work) in
       let c = stepOf (directionAt (r .drawing) k d) (r .pitch) (r .cursor) in
-      cases (λ (q : Registers). SoundSet board (fewer q)) (ltb (k + 1) (dotsOf (r .drawing)))
+      cases (λ (q : Registers). SoundSet board (fewerLeft q)) (ltb (k + 1) (dotsOf (r .drawing)))
       (λ t. work-kept (putCursor r c) (cursor-kept r l c (fits-step (directionAt (r .drawing) k d) (r .pitch) (r .cursor) (l .cursor)))
       (r .remaining - 1) (Figure (k + 1) (runningD (r .drawing) d))
       (record {
@@ -63,7 +63,7 @@ pub figure-kept : {board : Board} (n k d : ℕ) (s : State) → Whole board n s 
     → Whole board n (oneFewer (figureUnit k d s))
 unfolding figureUnit
 figure-kept n k d s w e =
-    cycle-kept n (s .regs .board .wiring) (s .regs .op) (patternAt (s .regs .ram) k) (s .regs) (fewer (figureMoved k d (s .regs)))
+    cycle-kept n (s .regs .board .wiring) (s .regs .op) (patternAt (s .regs .ram) k) (s .regs) (fewerLeft (figureMoved k d (s .regs)))
     (s .mem) w (figure-moves (s .regs) (w .regs) k d e)
 
 -- ---- GCHRD's character
@@ -85,7 +85,7 @@ module _ (rows columns row column n : ℕ) (inside : column < columns) (last : c
 
 module _ {board : Board} (r : Registers) (l : SoundSet board r) (row column : ℕ) (start : Cursor)
     (e : r .work ≡ Character row column start) where
-  character-moves : SoundSet board (fewer (characterMoved row column start r))
+  character-moves : SoundSet board (fewerLeft (characterMoved row column start r))
   unfolding characterMoved nextStart characterLeft
   character-moves =
       let g : Going (r .drawing) (r .video .zoom) (r .mode) (r .remaining) (Character row column start) = rw e at (l .work) in
@@ -94,7 +94,7 @@ module _ {board : Board} (r : Registers) (l : SoundSet board r) (row column : �
       let along = stepOf (r .drawing .dir) (r .pitch) (r .cursor) in
       let next = stepOf ((r .drawing .dir + 2) % 8) (r .pitch) start in
       let fits : Fits next = fits-step ((r .drawing .dir + 2) % 8) (r .pitch) start (record { ead = g .place .2; mask = g .start }) in
-      cases (λ (q : Registers). SoundSet board (fewer q)) (ltb (column + 1) columns)
+      cases (λ (q : Registers). SoundSet board (fewerLeft q)) (ltb (column + 1) columns)
       (λ t. work-kept (putCursor r along) (cursor-kept r l along (fits-step (r .drawing .dir) (r .pitch) (r .cursor) (l .cursor)))
       (r .remaining - 1) (Character row (column + 1) start)
       (record {
@@ -103,7 +103,7 @@ module _ {board : Board} (r : Registers) (l : SoundSet board r) (row column : �
         start = g .start;
         count = omega (arith, g .count);
       }))
-      (λ t. cases (λ (q : Registers). SoundSet board (fewer q)) (ltb (row + 1) rows)
+      (λ t. cases (λ (q : Registers). SoundSet board (fewerLeft q)) (ltb (row + 1) rows)
       (λ u. work-kept (putCursor r next) (cursor-kept r l next fits) (r .remaining - 1) (Character (row + 1) 0 next)
       (record {
         place = (ltb-true (row + 1) rows u, omega (arith, g .place .1), fits .ead);
@@ -121,7 +121,7 @@ unfolding characterUnit
 character-kept n row column start s w e =
     cycle-kept n (s .regs .board .wiring) (s .regs .op) (characterPattern (s .regs .ram) (factorOf (s .regs .video .zoom)) row column)
     (s .regs)
-    (fewer (characterMoved row column start (s .regs))) (s .mem) w (character-moves (s .regs) (w .regs) row column start e)
+    (fewerLeft (characterMoved row column start (s .regs))) (s .mem) w (character-moves (s .regs) (w .regs) row column start e)
 
 -- ---- a read
 

@@ -31,6 +31,7 @@ use Rattle.registers.specs.Put.{putWork, putRemaining}
 use Rattle.registers.specs.State.{State, state}
 use Rattle.registers.specs.Typed.{StartFits, Typed, Words}
 use Rattle.processor.specs.Command.{countBegun}
+use Rattle.units.specs.Unit.{fewerLeft}
 use Rattle.laws.proofs.SoundLaws.{Sound, DrawingFits, BufferFits, Inside, Suits, sound-parts, sound-whole}
 
 pub record Queue (m : Mode) (b : Buffer) : Type 0 where
@@ -127,11 +128,8 @@ module _ {board : Board} (r : Registers) (l : SoundSet board r) where
   pub count-kept : SoundSet board (countBegun r)
   count-kept = search
 
--- one cycle less is left, and none where the figure ends
-abbrev pub fewer : Registers → Registers
-fewer r = putRemaining r (r .remaining - 1)
-
-pub ends : {board : Board} (r : Registers) → SoundSet board r → r .remaining - 1 ≡ 0 → SoundSet board (fewer (putWork r Idle))
+-- a figure ends with its last cycle
+pub ends : {board : Board} (r : Registers) → SoundSet board r → r .remaining - 1 ≡ 0 → SoundSet board (fewerLeft (putWork r Idle))
 ends r l z = work-kept r l (r .remaining - 1) Idle (record { place = tt; mode = tt; start = tt; count = z })
 
 -- ---- the memory
