@@ -26,7 +26,8 @@ ordered a k w s b p =
 
 module _ (p : PlainRegisters) where
   abbrev inProgressB : Bool
-  inProgressB = workFormB (p .work) && placedB (drawingOf (p .drawing)) (p .video .zoom) (modeOf (p .mode)) (p .remaining) (workOf (p .work))
+  inProgressB =
+      workFormB (p .work) && placedB (drawingOf (p .drawing)) (p .video .zoom) (modeOf (p .mode)) (p .remaining) (workOf (p .work))
 
   abbrev commandB : Bool
   commandB = commandFormB (p .progress .command) (p .progress .transfer)

@@ -1,7 +1,7 @@
 -- The form of what is in progress, field by field as `work_formed` tests it, is the form kind by kind: at each kind both compute, and any
 -- other number is no kind.
-use mathlib.Core.Path.{_≡_, refl, ap}
-use mathlib.Core.Bool.{Bool, true, false, cond, not, and-true, _&&_, _||_}
+use mathlib.Core.Path.{_≡_, ap}
+use mathlib.Core.Bool.{Bool, false, cond, not, and-true, _&&_, _||_}
 use Prim.Native.Nat.{ℕ, zero, suc}
 use native.Mathlib.Omega.{arith}
 use lib.Dec.{eqb, ltb}

@@ -22,7 +22,7 @@ use Rattle.registers.specs.declared.Registers.{Registers}
 use Rattle.registers.specs.Size.{lineKind, dotsOf, rowsOf, columnsOf, factorOf}
 use Rattle.registers.specs.Left.{characterLeft}
 use Rattle.registers.specs.Buffer.{pushed}
-use Rattle.registers.specs.Put.{putCursor, putBuffer, putWork}
+use Rattle.registers.specs.Put.{putCursor, putBuffer}
 use Rattle.registers.specs.State.{State}
 use Rattle.figures.specs.Figure.{patternAt, negative, errorAfter, directionAt, runningD, figureMoved, figureUnit}
 use Rattle.figures.specs.Character.{characterPattern, nextStart, characterMoved, characterUnit}

@@ -39,7 +39,8 @@ use Rattle.wdat.specs.Wdat.{halfB, bitMappedB, setPattern, firstSync, wdatProgr
 use Rattle.processor.specs.Entry.{nextOf, counted, parameterBy, parameterTaken, entryTaken}
 use Rattle.laws.proofs.BranchLaws.{either, cases}
 use Rattle.laws.proofs.SoundLaws.{DrawingFits}
-use Rattle.laws.proofs.KeptLaws.{Queue, SoundSet, Whole, idle, none-left, cursor-kept, plain-kept, drawing-kept, ram-kept, video-kept}
+use Rattle.laws.proofs.KeptLaws.{Queue, SoundSet, Whole, idle, none-left, cursor-kept, plain-kept, drawing-kept, ram-kept}
+use Rattle.laws.proofs.KeptLaws.{video-kept}
 use Rattle.laws.proofs.KeptLaws.{pen-kept, progress-kept, work-kept, count-kept, turn-kept, cycle-kept}
 use Rattle.laws.proofs.KeptBufferLaws.{bytes-queue, empty-queue}
 use Rattle.laws.proofs.KeptMoveLaws.{arc-begins}

@@ -12,7 +12,6 @@ use Rattle.dots.specs.declared.Cursor.{Cursor}
 use Rattle.registers.specs.declared.Board.{Board}
 use Rattle.registers.specs.declared.Drawing.{Drawing}
 use Rattle.registers.specs.declared.Mode.{Mode}
-use Rattle.registers.specs.declared.Running.{Running}
 use Rattle.registers.specs.declared.Registers.{Registers}
 use Rattle.registers.specs.declared.Work.{Work}
 use Rattle.registers.specs.declared.Work.the-variants.{Idle, Figure, Arc, Character, Reading}
@@ -77,7 +76,8 @@ module _ (r : Registers) where
   figure-moved : (k d : ℕ) → Moved r (figureMoved k d r)
   unfolding figureMoved
   figure-moved k d =
-      either (Moved r) (ltb (k + 1) (dotsOf (r .drawing))) (record { kept = refl; ends = on refl }) (record { kept = refl; ends = λ e. refl })
+      either (Moved r) (ltb (k + 1) (dotsOf (r .drawing))) (record { kept = refl; ends = on refl })
+      (record { kept = refl; ends = λ e. refl })
 
   arc-moved : (k : ℕ) (met : Moving) → Moved r (arcMoved k met r)
   unfolding arcMoved

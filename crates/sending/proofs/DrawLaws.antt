@@ -49,7 +49,8 @@ module _ (r : Registers) (m : List ℕ) where
 
   abbrev here : ℕ → State
   here i =
-      state (putRemaining (putWork (putCursor r (cursorOf i)) (Figure i (runningAt (r .drawing) i))) (dotsOf (r .drawing) - i)) (drawnUpTo i)
+      state (putRemaining (putWork (putCursor r (cursorOf i)) (Figure i (runningAt (r .drawing) i))) (dotsOf (r .drawing) - i))
+      (drawnUpTo i)
 
   abbrev pub ended : ℕ → State
   ended n = state (putWork (putCursor r (cursorOf n)) Idle) (drawnUpTo (suc n))
