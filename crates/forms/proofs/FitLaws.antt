@@ -9,7 +9,7 @@ use Rattle.plain.specs.Numbers.{modeOf}
 use Rattle.plain.specs.Parts.{cursorOf, drawingOf, bufferOf, workOf}
 use Rattle.plain.specs.Form.{commandFormB, workFormB, bitsB, plainFormB}
 use Rattle.plain.specs.Mirror.{fromPlain}
-use Rattle.forms.specs.Fit.{placedB, numbersB}
+use Rattle.forms.specs.Fit.{placedB, inProgressB, numbersB}
 
 inner : (a b c d : Bool) → ((a && b) && (c && d)) ≡ ((a && c) && (b && d))
 inner true true c d = refl
@@ -25,17 +25,13 @@ ordered a k w s b p =
     ∙ sym (and-assoc ((a && s) && k) (w && p) b)
 
 module _ (p : PlainRegisters) where
-  abbrev inProgressB : Bool
-  inProgressB =
-      workFormB (p .work) && placedB (drawingOf (p .drawing)) (p .video .zoom) (modeOf (p .mode)) (p .remaining) (workOf (p .work))
-
   abbrev commandB : Bool
   commandB = commandFormB (p .progress .command) (p .progress .transfer)
 
   abbrev heldB : Bool
   heldB = bufferB (modeOf (p .mode)) (bufferOf (p .buffer))
 
-  all : (plainFormB p && soundB (fromPlain p)) ≡ (((numbersB p && commandB) && inProgressB) && heldB)
+  all : (plainFormB p && soundB (fromPlain p)) ≡ (((numbersB p && commandB) && inProgressB p) && heldB)
   unfolding plainFormB soundB fromPlain
   all =
       let n = cursorB (cursorOf (p .cursor)) && drawingB (drawingOf (p .drawing)) && ltb (p .pen .address) 262144
@@ -49,6 +45,6 @@ module _ (p : PlainRegisters) where
       (placedB (drawingOf (p .drawing)) (p .video .zoom) (modeOf (p .mode)) (p .remaining) (workOf (p .work)))
 
   -- the four tests, each with what it found
-  pub by-parts : {n k w b : Bool} → n ≡ numbersB p → k ≡ commandB → w ≡ inProgressB → b ≡ heldB
+  pub by-parts : {n k w b : Bool} → n ≡ numbersB p → k ≡ commandB → w ≡ inProgressB p → b ≡ heldB
       → (((n && k) && w) && b) ≡ (plainFormB p && soundB (fromPlain p))
   by-parts e f g h = (λ i. ((e i && f i) && g i) && h i) ∙ sym all

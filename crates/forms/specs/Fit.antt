@@ -13,9 +13,9 @@ use Rattle.registers.specs.Left.{cyclesLeft}
 use Rattle.registers.specs.Sound.{cursorB, drawingB, placeB, workB}
 use Rattle.plain.specs.declared.PlainRegisters.{PlainRegisters}
 use Rattle.plain.specs.declared.PlainWork.{PlainWork}
-use Rattle.plain.specs.Numbers.{operations, modes, wirings, transfers, transferOf}
-use Rattle.plain.specs.Parts.{cursorOf, drawingOf}
-use Rattle.plain.specs.Form.{noFigureB, noArcB, noCharacterB, noReadingB, bitsB}
+use Rattle.plain.specs.Numbers.{operations, modes, wirings, transfers, transferOf, modeOf}
+use Rattle.plain.specs.Parts.{cursorOf, drawingOf, workOf}
+use Rattle.plain.specs.Form.{noFigureB, noArcB, noCharacterB, noReadingB, workFormB, bitsB}
 
 -- what is in progress is inside its figure or read, and of its mode, and n cycles of it are left
 abbrev pub placedB : Drawing → ℕ → Mode → ℕ → Work → Bool
@@ -40,6 +40,11 @@ readB w f zoom m n =
 abbrev pub arcB : PlainWork → Drawing → ℕ → Mode → ℕ → Bool
 arcB w f zoom m n =
     (noCharacterB w && noReadingB w) && placedB f zoom m n (Arc (w .dot) (record { d = w .d; d1 = w .d1; d2 = w .d2 }))
+
+-- what is in progress is formed and placed, with its count
+abbrev pub inProgressB : PlainRegisters → Bool
+inProgressB p =
+    workFormB (p .work) && placedB (drawingOf (p .drawing)) (p .video .zoom) (modeOf (p .mode)) (p .remaining) (workOf (p .work))
 
 -- every number that stands for itself, a bit or an enum's case is within its width
 abbrev pub numbersB : PlainRegisters → Bool

@@ -11,9 +11,8 @@ ghost use mathlib.Core.Path.{_≡_};
 ghost use mathlib.Core.Bool.{_&&_};
 ghost use Rattle.registers.specs.Sound.{placeB, workB, soundB};
 ghost use Rattle.plain.specs.Form.{commandFormB, noFigureB, noArcB, noCharacterB, noReadingB, workFormB, bitsB, plainFormB};
-ghost use Rattle.plain.specs.Parts.{workOf};
 ghost use Rattle.plain.specs.Mirror.{fromPlain};
-ghost use Rattle.forms.specs.Fit.{placedB, nothingB, figureB, characterB, readB, arcB, numbersB};
+ghost use Rattle.forms.specs.Fit.{nothingB, figureB, characterB, readB, arcB, inProgressB, numbersB};
 
 fn command_formed(n: u8, transfer: u8) -> bool
     ensures { λ t. ⌜ t ≡ commandFormB n transfer ⌝ }
@@ -148,14 +147,19 @@ fn arc_fits(w: PlainWork, f: Drawing, zoom: u8, m: Mode, left: u64) -> bool
     spare & inside
 }
 
-// What is in progress is formed and placed, with its count.
-fn work_fits(w: PlainWork, f: Drawing, zoom: u8, m: Mode, left: u64) -> bool
-    ensures { λ t. ⌜ t ≡ (workFormB w && placedB f zoom m left (workOf w)) ⌝ }
+// What is in progress is formed and placed, with its count. Nothing, asked first, needs no other part of the set.
+fn work_fits(p: PlainRegisters) -> bool
+    ensures { λ t. ⌜ t ≡ inProgressB p ⌝ }
 {
-    let kind = w.kind;
+    let kind = p.work.kind;
     if kind == 0 {
-        return nothing_fits(w, left);
+        return nothing_fits(p.work, p.remaining);
     }
+    let w = p.work;
+    let f = parts::drawing_of(p.drawing);
+    let zoom = p.video.zoom;
+    let m = numbers::mode_of(p.mode);
+    let left = p.remaining;
     match kind {
         1 => figure_fits(w, f, zoom, m, left),
         2 => character_fits(w, f, zoom, m, left),
@@ -191,10 +195,9 @@ pub fn fits(p: PlainRegisters) -> bool
     if !command_formed(p.progress.command, p.progress.transfer) {
         return false;
     }
-    let mode = numbers::mode_of(p.mode);
-    let f = parts::drawing_of(p.drawing);
-    if !work_fits(p.work, f, p.video.zoom, mode, p.remaining) {
+    if !work_fits(p) {
         return false;
     }
+    let mode = numbers::mode_of(p.mode);
     registers::buffer_fits(mode, parts::buffer_of(p.buffer))
 }

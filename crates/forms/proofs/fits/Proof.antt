@@ -25,24 +25,19 @@ returns-2 c =
     (sym (not-true _ (c .if2 .taken)) ∙ c .before .command-formed .ensures)
     refl refl
 
-mode-of-requires : tie.Need-mode-of-requires
-mode-of-requires c κs = search needs
-
-drawing-of-requires : tie.Need-drawing-of-requires
-drawing-of-requires c κs = search needs
-
 work-fits-requires : tie.Need-work-fits-requires
 work-fits-requires c κs = search needs
 
 returns-3 : tie.Need-returns-3
 returns-3 c =
-    by-parts (c .before .before .before .before .before .before .before .before .args .p)
-    (sym (not-false _ (c .before .before .before .before .before .before .if1 .left))
-    ∙ c .before .before .before .before .before .before .before .numbers-fit .ensures)
-    (sym (not-false _ (c .before .before .before .before .if2 .left)) ∙ c .before .before .before .before .before .command-formed .ensures)
-    (sym (not-true _ (c .if3 .taken))
-    ∙ (rw (c .before .before .drawing-of .ensures, c .before .before .before .mode-of .ensures) at (c .before .work-fits .ensures)))
+    by-parts (c .before .before .before .before .before .before .args .p)
+    (sym (not-false _ (c .before .before .before .before .if1 .left)) ∙ c .before .before .before .before .before .numbers-fit .ensures)
+    (sym (not-false _ (c .before .before .if2 .left)) ∙ c .before .before .before .command-formed .ensures)
+    (sym (not-true _ (c .if3 .taken)) ∙ c .before .work-fits .ensures)
     refl
+
+mode-of-requires : tie.Need-mode-of-requires
+mode-of-requires c κs = search needs
 
 buffer-of-requires : tie.Need-buffer-of-requires
 buffer-of-requires c κs = search needs
@@ -52,15 +47,13 @@ buffer-fits-requires c κs = search needs
 
 returns-4 : tie.Need-returns-4
 returns-4 c =
-    by-parts (c .before .before .before .before .before .before .before .before .before .before .args .p)
-    (sym (not-false _ (c .before .before .before .before .before .before .before .before .if1 .left))
-    ∙ c .before .before .before .before .before .before .before .before .before .numbers-fit .ensures)
-    (sym (not-false _ (c .before .before .before .before .before .before .if2 .left))
-    ∙ c .before .before .before .before .before .before .before .command-formed .ensures)
-    (sym (not-false _ (c .before .before .if3 .left))
-    ∙ (rw (c .before .before .before .before .drawing-of .ensures, c .before .before .before .before .before .mode-of .ensures) at
-    (c .before .before .before .work-fits .ensures)))
-    (rw (c .before .buffer-of .ensures, c .before .before .before .before .before .mode-of .ensures) at (c .buffer-fits .ensures))
+    by-parts (c .before .before .before .before .before .before .before .before .before .args .p)
+    (sym (not-false _ (c .before .before .before .before .before .before .before .if1 .left))
+    ∙ c .before .before .before .before .before .before .before .before .numbers-fit .ensures)
+    (sym (not-false _ (c .before .before .before .before .before .if2 .left))
+    ∙ c .before .before .before .before .before .before .command-formed .ensures)
+    (sym (not-false _ (c .before .before .before .if3 .left)) ∙ c .before .before .before .before .work-fits .ensures)
+    (rw (c .before .buffer-of .ensures, c .before .before .mode-of .ensures) at (c .buffer-fits .ensures))
 
 pub fits-spec : {M : Type 1} → statement M
 fits-spec =
@@ -70,10 +63,9 @@ fits-spec =
     returns
     command-formed-requires
     returns-2
-    mode-of-requires
-    drawing-of-requires
     work-fits-requires
     returns-3
+    mode-of-requires
     buffer-of-requires
     buffer-fits-requires
     returns-4)

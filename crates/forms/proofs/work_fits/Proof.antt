@@ -10,6 +10,12 @@ nothing-fits-requires c κs = search needs
 returns : tie.Need-returns
 returns c = rw (c .nothing-fits .ensures, c .before .if1 .taken)
 
+drawing-of-requires : tie.Need-drawing-of-requires
+drawing-of-requires c κs = search needs
+
+mode-of-requires : tie.Need-mode-of-requires
+mode-of-requires c κs = search needs
+
 figure-fits-requires : tie.Need-figure-fits-requires
 figure-fits-requires c κs = search needs
 
@@ -23,22 +29,36 @@ arc-fits-requires : tie.Need-arc-fits-requires
 arc-fits-requires c κs = search needs
 
 returns-2 : tie.Need-returns-2
-returns-2 c = rw (c .figure-fits .ensures, c .before .match .keys1)
+returns-2 c =
+    rw (
+      c .figure-fits .ensures,
+      c .before .before .mode-of .ensures,
+      c .before .before .before .drawing-of .ensures,
+      c .before .match .keys1,
+    )
 
 returns-3 : tie.Need-returns-3
-returns-3 c = rw (c .character-fits .ensures, c .before .match .keys2)
+returns-3 c =
+    rw (
+      c .character-fits .ensures,
+      c .before .before .mode-of .ensures,
+      c .before .before .before .drawing-of .ensures,
+      c .before .match .keys2,
+    )
 
 returns-4 : tie.Need-returns-4
-returns-4 c = rw (c .read-fits .ensures, c .before .match .keys3)
+returns-4 c =
+    rw (c .read-fits .ensures, c .before .before .mode-of .ensures, c .before .before .before .drawing-of .ensures, c .before .match .keys3)
 
 returns-5 : tie.Need-returns-5
-returns-5 c = rw (c .arc-fits .ensures, c .before .match .keys4)
+returns-5 c =
+    rw (c .arc-fits .ensures, c .before .before .mode-of .ensures, c .before .before .before .drawing-of .ensures, c .before .match .keys4)
 
 returns-6 : tie.Need-returns-6
 returns-6 c =
     let n = c .match .rest in
     rw (
-      ne-eqb _ 0 (c .before .if1 .left),
+      ne-eqb _ 0 (c .before .before .before .before .if1 .left),
       ne-eqb _ 1 (n .0 .0 .0 .1),
       ne-eqb _ 2 (n .0 .0 .1),
       ne-eqb _ 3 (n .0 .1),
@@ -51,6 +71,8 @@ work-fits-spec =
     (tie.spec
     nothing-fits-requires
     returns
+    drawing-of-requires
+    mode-of-requires
     figure-fits-requires
     character-fits-requires
     read-fits-requires
