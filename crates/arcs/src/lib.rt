@@ -1,4 +1,6 @@
 // An arc under way: the running D, D1 and D2, and the moves from dot to dot.
+#![tactic(auto)]
+
 ghost use Rattle.std.specs.Prelude.{◌≡◌};
 ghost use Rattle.arcs.specs.Arc.{gained, losing, turns_b, running_on, arc_direction, moved_on, passed};
 
@@ -13,7 +15,7 @@ const FOURTEEN_BITS: u32 = 16384;
 const TWO_LESS: u32 = 16382;
 
 // Where an arc stands, and its running D, D1 and D2.
-#[derive(Drop)]
+#[derive(Clone, Copy)]
 pub struct Moving {
     pub running: Running,
     pub cursor: Cursor,

@@ -1,6 +1,8 @@
 // The bench: a script on standard input drives the controller and the translator, one line of answer for each of its lines.
 //
 // A line of a new kind is an order more, and an arm with its function in the crate of its group.
+#![tactic(auto)]
+
 ghost use Rattle.std.specs.Prelude.{◌≡◌};
 ghost use Rattle.bench.specs.Line.{asked_for, behind_of};
 
@@ -110,7 +112,7 @@ fn answer(
 }
 
 // What is carried from turn to turn.
-#[derive(Drop)]
+#[derive(Clone, Copy)]
 pub struct Bench {
     pub left: Left,
     pub reader: Reader,

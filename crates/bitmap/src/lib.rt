@@ -1,4 +1,6 @@
 // The bytes of a portable bitmap (PBM, P4): there the most significant bit is leftmost, here a word's bit 0 is.
+#![tactic(auto)]
+
 ghost use Rattle.std.specs.Prelude.{◌≡◌, ◌+◌, ◌*◌, ◌/◌, ◌%◌, ◌<◌, get_or};
 ghost use Rattle.bitmap.specs.Image.{reversed_of, half_of, byte_at, image_of};
 

@@ -1,4 +1,6 @@
 // The blocks of a drawing sheet: their checks, headings, spare bytes and unused records.
+#![tactic(auto)]
+
 ghost use Rattle.std.specs.Prelude.{◌≡◌};
 ghost use Rattle.blocks.specs.Answer.{refusal_unless, or_else};
 ghost use Rattle.blocks.specs.Block.{check_of, zeros_b, head_b, block_refusal, blocks_checked};
@@ -32,7 +34,7 @@ const WRONG_CHECK: u8 = 14;
 const WRONG_HEADING: u8 = 15;
 
 // An answer: the number of the refusal or 0, and the two values with it.
-#[derive(Drop)]
+#[derive(Clone, Copy)]
 pub struct Answer {
     pub number: u8,
     pub first: u32,

@@ -1,4 +1,6 @@
 // The board calls: a run on the register set where it stands, and a list of entries sent to it.
+#![tactic(auto)]
+
 ghost use Rattle.std.specs.Prelude.{◌≡◌};
 ghost use Rattle.registers.specs.State.{state};
 ghost use Rattle.units.specs.Run.{run_done};
@@ -10,7 +12,7 @@ use sends::Listed;
 use units::Ran;
 
 // What a board call answers: a number of refusal, the units done, and why it stopped.
-#[derive(Drop)]
+#[derive(Clone, Copy)]
 pub struct Report {
     pub number: u8,
     pub count: u32,
@@ -45,7 +47,7 @@ pub fn board_run(r: &mut Registers, mem: &mut [u16], budget: u32) -> Report
 }
 
 // What a list of entries answers: a number of refusal, how many entries were taken, and the units of their runs.
-#[derive(Drop)]
+#[derive(Clone, Copy)]
 pub struct Tally {
     pub number: u8,
     pub taken: u64,

@@ -1,4 +1,6 @@
 // What the programs do with their buffers: the part that is in use, words cleared and put, and a digest of them.
+#![tactic(auto)]
+
 ghost use Rattle.std.specs.Prelude.{◌≡◌, length};
 ghost use Rattle.buffers.specs.Used.{Used};
 ghost use Rattle.buffers.specs.Words.{cleared, stored, mixed, digest_of};

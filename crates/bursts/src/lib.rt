@@ -1,4 +1,6 @@
 // Many units of a figure or a character at once: a walk over the dots before the last, then the last with what it ends.
+#![tactic(auto)]
+
 ghost use Rattle.std.specs.Prelude.{◌≡◌, ◌+◌, ◌-◌, ◌<◌};
 ghost use Rattle.walks.specs.Walk.{rows_in, columns_in};
 ghost use Rattle.bursts.specs.Burst.{burst, later, figure_burst, character_burst, whole_rows, rows_ahead, after_row};
@@ -8,7 +10,7 @@ use registers::Work;
 use walks::{Brush, least_of, next_row};
 
 // How many units were done, where they led, and what is in progress then.
-#[derive(Drop)]
+#[derive(Clone, Copy)]
 pub struct Burst {
     pub count: u32,
     pub cursor: Cursor,

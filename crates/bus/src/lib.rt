@@ -1,4 +1,6 @@
 // A byte to a port and from one, by the plain numbers: where the buffer alone changes, nothing else is converted or touched.
+#![tactic(auto)]
+
 ghost use Rattle.std.specs.Prelude.{◌≡◌};
 ghost use Rattle.plain.specs.Mirror.{from_plain};
 ghost use Rattle.sending.specs.Send.{written};
@@ -22,7 +24,7 @@ use registers::Work;
 
 // What a port answers.
 #[repr(C)]
-#[derive(Drop)]
+#[derive(Clone, Copy)]
 pub struct PlainAnswer {
     pub number: u8,
     pub value: u8,
@@ -53,7 +55,7 @@ pub fn refuse(p: PlainRegisters) -> PlainAnswer
 }
 
 // What a port answers that changes the buffer alone.
-#[derive(Drop)]
+#[derive(Clone, Copy)]
 struct Held {
     number: u8,
     value: u8,

@@ -1,4 +1,6 @@
 // The numbers of a circle that its arcs are sent with. The circle itself is a shape of crate geometry, its arcs are in specs/Circle.antt.
+#![tactic(auto)]
+
 ghost use Rattle.std.specs.Prelude.{◌≡◌};
 ghost use Rattle.circles.specs.Circle.{largest, coincide};
 

@@ -1,4 +1,6 @@
 // Decoding of a command byte.
+#![tactic(auto)]
+
 ghost use Rattle.std.specs.Prelude.{◌≡◌};
 ghost use Rattle.commands.specs.Decode.{family_of, command_of};
 

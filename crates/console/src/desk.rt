@@ -4,7 +4,7 @@ ghost use Rattle.console.specs.Desk.{before_first, with_held};
 
 use registers::Registers;
 
-#[derive(Drop)]
+#[derive(Clone, Copy)]
 pub struct Desk {
     // The words of the memory.
     pub words: usize,
@@ -19,14 +19,14 @@ pub struct Desk {
 }
 
 // What a line of the script leaves.
-#[derive(Drop)]
+#[derive(Clone, Copy)]
 pub struct Left {
     pub regs: Registers,
     pub desk: Desk,
 }
 
 // An answer: a letter and numbers, or that the line is not of the language.
-#[derive(Drop)]
+#[derive(Clone, Copy)]
 pub enum Reply {
     Unknown,
     One(u8, u64),
@@ -36,7 +36,7 @@ pub enum Reply {
 }
 
 // What a line that changes the registers does: the registers after it, and its answer.
-#[derive(Drop)]
+#[derive(Clone, Copy)]
 pub struct Done {
     pub regs: Registers,
     pub reply: Reply,

@@ -4,7 +4,7 @@ ghost use Rattle.console.specs.Reader.{at_start, past_line, taking, taken};
 
 // How far the piece is taken, how much of it there is, the characters of the line so far, whether that line is whole,
 // whether the script has no more to read, and whether its last line is taken too.
-#[derive(Drop)]
+#[derive(Clone, Copy)]
 pub struct Reader {
     pub at: usize,
     pub filled: usize,

@@ -1,4 +1,6 @@
 // The lines of the bench that drive the controller and look at it.
+#![tactic(auto)]
+
 mod fields;
 mod listed;
 mod memory;

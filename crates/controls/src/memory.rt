@@ -20,7 +20,7 @@ use registers::Registers;
 use units::Ran;
 
 // What such a line does: the registers and the memory's length after it, and its answer.
-#[derive(Drop)]
+#[derive(Clone, Copy)]
 pub struct Worked {
     pub regs: Registers,
     pub words: usize,

@@ -1,4 +1,6 @@
 // What a sheet costs, said before anything is sent: after the checks of crate refusals, one pass over the records.
+#![tactic(auto)]
+
 ghost use Rattle.std.specs.Prelude.{◌≡◌, ◌*◌};
 ghost use Rattle.circles.specs.Circle.{circle_dots};
 ghost use Rattle.sheets.specs.Slots.{slot_figures, figures};
@@ -11,7 +13,7 @@ use refusals::{BLOCK_BYTES, RECORDS};
 
 // What a sheet costs: a number of refusal with its two values; or 0 with the entries needed and 0, how many figures there are, and the
 // units that their drawing takes.
-#[derive(Drop)]
+#[derive(Clone, Copy)]
 pub struct Cost {
     pub number: u8,
     pub first: u32,
@@ -21,7 +23,7 @@ pub struct Cost {
 }
 
 // A slot's share: how many figures it has, none or one, their entries and their dots.
-#[derive(Drop)]
+#[derive(Clone, Copy)]
 pub struct Share {
     pub figures: u32,
     pub entries: u32,

@@ -1,9 +1,11 @@
 // Decimal numbers of 32 bits.
+#![tactic(auto)]
+
 ghost use Rattle.std.specs.Prelude.{◌≡◌, ◌≤◌};
 ghost use Rattle.decimals.specs.Decimal.{ten_of, decimal_of};
 
 // The number that a text is, or that it is none.
-#[derive(Drop)]
+#[derive(Clone, Copy)]
 pub enum Number {
     Bad,
     Is(u32),

@@ -1,4 +1,6 @@
 // A sheet is drawn: it is translated, and its entries are sent to the controller one at a time, with a run after each.
+#![tactic(auto)]
+
 ghost use Rattle.std.specs.Prelude.{◌≡◌};
 ghost use Rattle.drawing.specs.Draw.{refusal, outcome, larger_b, sheet_drawn};
 
@@ -6,7 +8,7 @@ use registers::Registers;
 
 // What a drawing answers: a number of refusal with its two values, the units of the sheet and those of what was waiting before it,
 // and the registers.
-#[derive(Drop)]
+#[derive(Clone, Copy)]
 pub struct Drawn {
     pub number: u8,
     pub first: u32,

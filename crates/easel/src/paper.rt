@@ -22,7 +22,7 @@ pub const TABLE: usize = 4096;
 pub const SHEET: usize = 8704;
 
 // What such a line does: what stands on the bench after it, and its answer.
-#[derive(Drop)]
+#[derive(Clone, Copy)]
 pub struct Laid {
     pub desk: Desk,
     pub reply: Reply,

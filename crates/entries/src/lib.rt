@@ -1,4 +1,6 @@
 // The entries for one figure: the commands and parameter bytes that draw it.
+#![tactic(auto)]
+
 ghost use Rattle.std.specs.Prelude.{◌≡◌, cond, ◌+◌, ◌*◌, ◌/◌, ◌%◌, ◌-◌, ◌<◌, get_or, set};
 ghost use Rattle.dots.specs.Operation.{operation_number};
 ghost use Rattle.circles.specs.Circle.{arc_dc, end_x, end_y};
@@ -29,7 +31,7 @@ const FIGD: u16 = 0x16C;
 const PRAM_8: u16 = 0x178;
 
 // A line's direction, its larger distance and its smaller one.
-#[derive(Drop)]
+#[derive(Clone, Copy)]
 pub struct Slope {
     pub dir: u8,
     pub major: u16,

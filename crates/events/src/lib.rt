@@ -1,4 +1,6 @@
 // What a line of a record of the bus says (docs/REPLAY.md).
+#![tactic(auto)]
+
 ghost use Rattle.std.specs.Prelude.{◌≡◌, ◌≤◌, length};
 ghost use Rattle.events.specs.Event.{
   digit_of,
@@ -19,7 +21,7 @@ use decimals::Number;
 
 // Nothing (an empty line, a comment); an entry for a port, the byte or for the command port 256 more; units to be done; a picture to
 // be sent; or none of these.
-#[derive(Drop)]
+#[derive(Clone, Copy)]
 pub enum Event {
     Nothing,
     Entry(u16),

@@ -1,4 +1,6 @@
 // What a unit of what is in progress is made of: the dots of a figure and of a character; an item of a read.
+#![tactic(auto)]
+
 ghost use Rattle.std.specs.Prelude.{◌≡◌};
 ghost use Rattle.registers.specs.Put.{put_cursor, put_work};
 

@@ -1,4 +1,6 @@
 // What was waiting or in progress is finished: the controller is run as often as it takes.
+#![tactic(auto)]
+
 ghost use Rattle.std.specs.Prelude.{◌≡◌};
 ghost use Rattle.registers.specs.State.{state};
 ghost use Rattle.finishing.specs.Finish.{outcome, finished};
@@ -6,7 +8,7 @@ ghost use Rattle.finishing.specs.Finish.{outcome, finished};
 use registers::Registers;
 
 // The registers after runs, and the units that these reported.
-#[derive(Drop)]
+#[derive(Clone, Copy)]
 pub struct Sent {
     pub regs: Registers,
     pub units: u64,

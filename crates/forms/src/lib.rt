@@ -1,4 +1,6 @@
 // Which plain numbers are those of a register set, and of a sound one: every entry from C asks it first.
+#![tactic(auto)]
+
 ghost use Rattle.std.specs.Prelude.{◌≡◌, ◌&&◌};
 ghost use Rattle.registers.specs.Sound.{place_b, work_b, sound_b};
 ghost use Rattle.plain.specs.Form.{command_form_b, no_figure_b, no_arc_b, no_character_b, no_reading_b, work_form_b, bits_b, plain_form_b};

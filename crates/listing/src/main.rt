@@ -1,5 +1,7 @@
 // Reads a drawing sheet, for a plane of 40 words by 400 lines with no glyphs, and writes its entries, one to a line, or why it is refused
 // (in words on standard error).
+#![tactic(auto)]
+
 ghost use Rattle.std.specs.Prelude.{◌≡◌, ◌%◌};
 ghost use Rattle.listing.specs.Line.{digit_of, mark_of, line_of};
 

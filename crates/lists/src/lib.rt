@@ -1,4 +1,6 @@
 // A list of entries is sent to the controller by one call, with a run after each.
+#![tactic(auto)]
+
 ghost use Rattle.std.specs.Prelude.{◌≡◌, true, min, ◌≤◌, length, drop};
 ghost use Rattle.registers.specs.Fresh.{empty_buffer};
 ghost use Rattle.registers.specs.Put.{put_buffer};

@@ -1,5 +1,7 @@
 // The controller and the translator for C and Rust on x86-64, over the register set in plain numbers: a function for every entry.
 // A set that is no register set (crate plain, `formed`) is refused with 1.
+#![tactic(auto)]
+
 ghost use Rattle.std.specs.Prelude.{◌≡◌};
 ghost use Rattle.registers.specs.Fresh.{fresh_set};
 ghost use Rattle.registers.specs.State.{state};
@@ -22,7 +24,7 @@ use units::Ran;
 
 // What a port answers by reference.
 #[repr(C)]
-#[derive(Drop)]
+#[derive(Clone, Copy)]
 pub struct PlainReply {
     pub number: u8,
     pub value: u8,
@@ -30,7 +32,7 @@ pub struct PlainReply {
 
 // What a run answers.
 #[repr(C)]
-#[derive(Drop)]
+#[derive(Clone, Copy)]
 pub struct PlainRan {
     pub number: u8,
     pub count: u32,
@@ -40,7 +42,7 @@ pub struct PlainRan {
 
 // What a run by reference answers.
 #[repr(C)]
-#[derive(Drop)]
+#[derive(Clone, Copy)]
 pub struct PlainReport {
     pub number: u8,
     pub count: u32,
@@ -49,7 +51,7 @@ pub struct PlainReport {
 
 // What a list of entries answers.
 #[repr(C)]
-#[derive(Drop)]
+#[derive(Clone, Copy)]
 pub struct PlainSent {
     pub number: u8,
     pub taken: u64,
@@ -59,7 +61,7 @@ pub struct PlainSent {
 
 // What a list of entries answers by reference.
 #[repr(C)]
-#[derive(Drop)]
+#[derive(Clone, Copy)]
 pub struct PlainTally {
     pub number: u8,
     pub taken: u64,
@@ -68,7 +70,7 @@ pub struct PlainTally {
 
 // What a translation answers.
 #[repr(C)]
-#[derive(Drop)]
+#[derive(Clone, Copy)]
 pub struct PlainTranslation {
     pub number: u8,
     pub first: u32,
@@ -77,7 +79,7 @@ pub struct PlainTranslation {
 
 // What a cost answers.
 #[repr(C)]
-#[derive(Drop)]
+#[derive(Clone, Copy)]
 pub struct PlainCost {
     pub number: u8,
     pub first: u32,

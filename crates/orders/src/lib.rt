@@ -1,4 +1,6 @@
 // What a line of the bench's script asks for: its letter, and the range of each of its numbers (docs/BENCH.md).
+#![tactic(auto)]
+
 ghost use Rattle.std.specs.Prelude.{◌≡◌};
 ghost use Rattle.orders.specs.Order.{
   byte_order,
@@ -20,7 +22,7 @@ use dots::Wiring;
 use script::Line;
 
 // To the ports.
-#[derive(Drop)]
+#[derive(Clone, Copy)]
 pub enum Port {
     Command(u8),
     Parameter(u8),
@@ -30,7 +32,7 @@ pub enum Port {
 }
 
 // To the memory: a fresh one of a wiring, a word of it, a run over it.
-#[derive(Drop)]
+#[derive(Clone, Copy)]
 pub enum Memory {
     Fresh(Wiring, u64),
     Word(u64, u16),
@@ -38,7 +40,7 @@ pub enum Memory {
 }
 
 // To be shown: the registers, words of the memory, its digest; of the register set the count of cycles left, and the wiring.
-#[derive(Drop)]
+#[derive(Clone, Copy)]
 pub enum Show {
     Registers,
     Words(u64, u64),
@@ -48,7 +50,7 @@ pub enum Show {
 }
 
 // To the papers that a translation needs: the picture's size, the glyph table, the sheet.
-#[derive(Drop)]
+#[derive(Clone, Copy)]
 pub enum Paper {
     Size(u32, u32),
     NoGlyphs,
@@ -59,7 +61,7 @@ pub enum Paper {
 
 // What a line asks for; of the sheet its translation into a room of entries, its cost, and its drawing; of the register set another count
 // of cycles left, or wiring.
-#[derive(Drop)]
+#[derive(Clone, Copy)]
 pub enum Order {
     Unknown,
     OfPort(Port),

@@ -1,4 +1,5 @@
 // A picture written to standard output as a portable bitmap (PBM, P4).
+#![tactic(auto)]
 
 // The bytes of a picture of P words by H lines, two for each word; 0 where P or H is out of 01's range.
 fn size_of(p: u32, h: u32) -> usize {

@@ -1,4 +1,6 @@
 // What a parameter byte does to a register: v is the byte, i its place among the command's parameters.
+#![tactic(auto)]
+
 ghost use Rattle.std.specs.Prelude.{◌≡◌, ◌<◌, ◌^◌};
 ghost use Rattle.parameters.specs.Parameter.{low_byte, high_byte, high_six, curs_by, mask_by, figs_by, sync_by, cchar_by, zoom_by, ram_by};
 ghost use Rattle.parameters.specs.Parameter.{pitch_by};

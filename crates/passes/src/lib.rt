@@ -1,4 +1,6 @@
 // The moves of an arc's dots that are passed over, and what FIGD begins. Where the mask is one bit the moves go by the bit address.
+#![tactic(auto)]
+
 ghost use Rattle.std.specs.Prelude.{◌≡◌};
 ghost use Rattle.arcs.specs.Arc.{passed};
 ghost use Rattle.arcs.specs.Unit.{copied, arc_begun};
@@ -18,7 +20,7 @@ const TWO_LESS: u64 = 18444492273895866368;
 const SIGN: u64 = 9223372036854775808;
 
 // The bit address with D; D1; what a diagonal move adds to the bit address, with D2. Each of the three in the high 14 bits.
-#[derive(Drop)]
+#[derive(Clone, Copy)]
 pub struct Place {
     pub at: u64,
     pub gain: u64,

@@ -7,6 +7,8 @@
 //
 // GLYPHS is a file of eight bytes a glyph, or '-' for none; P 40, H 400 and 16,384 words of memory unless others are given. WIRING is
 // open or folded; folded unless it is given. Where anything is wrong it says so in a sentence on standard error and writes nothing else.
+#![tactic(auto)]
+
 use decimals::Number;
 use dots::Wiring;
 use wirings::Named;
@@ -28,7 +30,7 @@ fn complain(text: &[u8]) {
 }
 
 // How many bytes of the glyph file were read, or that there are none.
-#[derive(Drop)]
+#[derive(Clone, Copy)]
 enum Table {
     Bad,
     Bytes(usize),

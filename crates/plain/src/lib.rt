@@ -1,18 +1,20 @@
 // The register set in plain numbers, as C holds it, and back. A set that is none (a bit that is 2, an enum's number out of range, an
 // unused field that is not 0) has no form.
+#![tactic(auto)]
+
 pub mod convert;
 pub mod numbers;
 pub mod parts;
 
 #[repr(C)]
-#[derive(Drop)]
+#[derive(Clone, Copy)]
 pub struct PlainCursor {
     pub ead: u32,
     pub mask: u16,
 }
 
 #[repr(C)]
-#[derive(Drop)]
+#[derive(Clone, Copy)]
 pub struct PlainDrawing {
     pub kind: u8,
     pub dir: u8,
@@ -25,7 +27,7 @@ pub struct PlainDrawing {
 }
 
 #[repr(C)]
-#[derive(Drop)]
+#[derive(Clone, Copy)]
 pub struct PlainVideo {
     pub zoom: u8,
     pub display: u8,
@@ -35,14 +37,14 @@ pub struct PlainVideo {
 }
 
 #[repr(C)]
-#[derive(Drop)]
+#[derive(Clone, Copy)]
 pub struct PlainPen {
     pub address: u32,
     pub set: u8,
 }
 
 #[repr(C)]
-#[derive(Drop)]
+#[derive(Clone, Copy)]
 pub struct PlainBuffer {
     pub entries: [u16; 16],
     pub count: u8,
@@ -50,7 +52,7 @@ pub struct PlainBuffer {
 
 // A transfer stands beside WDAT (15) and RDAT (16) alone.
 #[repr(C)]
-#[derive(Drop)]
+#[derive(Clone, Copy)]
 pub struct PlainProgress {
     pub command: u8,
     pub transfer: u8,
@@ -61,7 +63,7 @@ pub struct PlainProgress {
 // What is in progress: 0 nothing; 1 a figure (dot, d); 2 a character (row, column, start); 3 a read (item, transfer); 4 an arc (its cycles
 // done in dot; d, d1, d2).
 #[repr(C)]
-#[derive(Drop)]
+#[derive(Clone, Copy)]
 pub struct PlainWork {
     pub kind: u8,
     pub transfer: u8,
@@ -77,14 +79,14 @@ pub struct PlainWork {
 
 // What the board is: its wiring, 0 folded, 1 open.
 #[repr(C)]
-#[derive(Drop)]
+#[derive(Clone, Copy)]
 pub struct PlainBoard {
     pub wiring: u8,
 }
 
 // The register set in plain numbers.
 #[repr(C)]
-#[derive(Drop)]
+#[derive(Clone, Copy)]
 pub struct PlainRegisters {
     pub cursor: PlainCursor,
     pub pitch: u8,

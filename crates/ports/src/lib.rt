@@ -1,4 +1,6 @@
 // The two ports, the status read at one, and the light pen.
+#![tactic(auto)]
+
 ghost use Rattle.std.specs.Prelude.{◌≡◌, ◌&&◌, ◌+◌, ◌*◌, eqb, ltb};
 ghost use Rattle.registers.specs.Width.{places};
 ghost use Rattle.registers.specs.Put.{put_buffer};
@@ -23,7 +25,7 @@ ghost use Rattle.ports.specs.Port.{
 use registers::{Mode, Registers, Work};
 
 // What a port answers: a number of refusal, the byte read, and the registers.
-#[derive(Drop)]
+#[derive(Clone, Copy)]
 pub struct Answer {
     pub number: u8,
     pub value: u8,

@@ -1,4 +1,6 @@
 // The command processor: what an entry does when it is taken from the buffer.
+#![tactic(auto)]
+
 ghost use Rattle.std.specs.Prelude.{◌≡◌};
 ghost use Rattle.registers.specs.State.{state};
 ghost use Rattle.processor.specs.Entry.{entry_taken};

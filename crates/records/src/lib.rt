@@ -1,4 +1,6 @@
 // The records of a drawing sheet: their ten bytes, the figure or the refusal that they stand for, and whether it lies in the plane.
+#![tactic(auto)]
+
 ghost use Rattle.std.specs.Prelude.{◌≡◌, ◌<◌};
 ghost use Rattle.records.specs.Raw.{byte_at, word_at, record_place, raw_at};
 ghost use Rattle.records.specs.Decode.{record_form_b, known_b, factor_b, radius_b, figure_of, decoded_of, decoded_at};
@@ -8,13 +10,13 @@ ghost use Rattle.records.specs.Refused.{why_number, number_of};
 use dots::Operation;
 
 // A dot of the plane.
-#[derive(Drop)]
+#[derive(Clone, Copy)]
 pub struct Point {
     pub x: u16,
     pub y: u16,
 }
 
-#[derive(Drop)]
+#[derive(Clone, Copy)]
 pub enum Figure {
     Dot(Point),
     Line(Point, Point),
@@ -23,14 +25,14 @@ pub enum Figure {
     Circle { centre: Point, radius: u16 },
 }
 
-#[derive(Drop)]
+#[derive(Clone, Copy)]
 pub struct Record {
     pub op: Operation,
     pub figure: Figure,
 }
 
 // Why a record is refused.
-#[derive(Drop)]
+#[derive(Clone, Copy)]
 pub enum Refusal {
     Form,
     GlyphNumber,
@@ -40,14 +42,14 @@ pub enum Refusal {
 }
 
 // What the ten bytes of a record stand for.
-#[derive(Drop)]
+#[derive(Clone, Copy)]
 pub enum Decoded {
     Good(Record),
     Refused(Refusal),
 }
 
 // The ten bytes as numbers. The last four are given both ways: as x1, y1 and as a glyph's number and factor. A circle's radius is x1.
-#[derive(Drop)]
+#[derive(Clone, Copy)]
 pub struct Raw {
     pub kind: u8,
     pub op: u8,
@@ -78,7 +80,7 @@ const GLYPH: u8 = 4;
 const CIRCLE: u8 = 5;
 
 // What there is: the plane's dots across and down, and how many glyphs.
-#[derive(Drop)]
+#[derive(Clone, Copy)]
 pub struct Room {
     pub across: u16,
     pub down: u16,

@@ -1,4 +1,6 @@
 // Whether a sheet is refused, with which number, 11 to 19, and with which values.
+#![tactic(auto)]
+
 ghost use Rattle.std.specs.Prelude.{◌≡◌};
 ghost use Rattle.refusals.specs.Refusals.{used_b, slot_decoded, slot_refusal, records_checked};
 ghost use Rattle.refusals.specs.Refusals.{plane_b, table_b, sheet_length_b, plane_refusal, table_refusal, length_refusal, frame_refusal};

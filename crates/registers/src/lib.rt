@@ -1,4 +1,6 @@
 // The register set, its fresh values, and the test that it is sound.
+#![tactic(auto)]
+
 ghost use Rattle.std.specs.Prelude.{◌≡◌, ◌-◌, take};
 ghost use Rattle.registers.specs.Fresh.{fresh_set};
 ghost use Rattle.registers.specs.Buffer.{pushed, oldest, popped};
@@ -48,14 +50,14 @@ const ENTRY_END: u16 = 512;
 pub const PARAMETERS: u8 = 16;
 
 // Which way the buffer carries bytes.
-#[derive(Drop)]
+#[derive(Clone, Copy)]
 pub enum Mode {
     Write,
     Read,
 }
 
 // The type of a transfer: a word, low byte first; its low byte; its high byte.
-#[derive(Drop)]
+#[derive(Clone, Copy)]
 pub enum Transfer {
     Word,
     Low,
@@ -63,7 +65,7 @@ pub enum Transfer {
 }
 
 // A command: none yet, those of the list, and any other byte.
-#[derive(Drop)]
+#[derive(Clone, Copy)]
 pub enum Command {
     Nothing,
     Reset,
@@ -86,7 +88,7 @@ pub enum Command {
 }
 
 // The running copies of D, D1 and D2 of an arc.
-#[derive(Drop)]
+#[derive(Clone, Copy)]
 pub struct Running {
     pub d: u16,
     pub d1: u16,
@@ -94,7 +96,7 @@ pub struct Running {
 }
 
 // What is in progress.
-#[derive(Drop)]
+#[derive(Clone, Copy)]
 pub enum Work {
     Idle,
     // FIGD's figure: the dot reached, and the running copy of D.
@@ -121,7 +123,7 @@ pub enum Work {
 }
 
 // FIGS: the type's five bits (SL, R, A, GC, L), DIR, GD, and DC to DM of 14 bits.
-#[derive(Drop)]
+#[derive(Clone, Copy)]
 pub struct Drawing {
     pub kind: u8,
     pub dir: u8,
@@ -134,7 +136,7 @@ pub struct Drawing {
 }
 
 // Bytes that are stored and not acted on, but for ZOOM's low nibble and, where WDAT writes, C and G of the first sync byte.
-#[derive(Drop)]
+#[derive(Clone, Copy)]
 pub struct Video {
     pub zoom: u8,
     pub display: bool,
@@ -144,21 +146,21 @@ pub struct Video {
 }
 
 // The light-pen address, and whether it is news.
-#[derive(Drop)]
+#[derive(Clone, Copy)]
 pub struct Pen {
     pub address: u32,
     pub set: bool,
 }
 
 // The first `count` entries are held, the oldest first.
-#[derive(Drop)]
+#[derive(Clone, Copy)]
 pub struct Buffer {
     pub entries: [u16; 16],
     pub count: u8,
 }
 
 // The command in progress: where its next parameter goes, and the first byte of a half-sent word.
-#[derive(Drop)]
+#[derive(Clone, Copy)]
 pub struct Progress {
     pub command: Command,
     pub next: u8,
@@ -166,12 +168,12 @@ pub struct Progress {
 }
 
 // What the board is; no port changes it.
-#[derive(Drop)]
+#[derive(Clone, Copy)]
 pub struct Board {
     pub wiring: Wiring,
 }
 
-#[derive(Drop)]
+#[derive(Clone, Copy)]
 pub struct Registers {
     pub cursor: Cursor,
     pub pitch: u8,

@@ -4,7 +4,7 @@ use std::num::wrapping_add_u64;
 
 // The line that is read; the bytes that the chip took and those that a port refused; the units, the pictures, the lines that are no event;
 // whether a U has come, and whether the output takes no more.
-#[derive(Drop)]
+#[derive(Clone, Copy)]
 pub struct Tally {
     pub line: u64,
     pub bytes: u64,

@@ -5,6 +5,8 @@
 //
 // WIRING is open or folded; folded unless it is given.
 // What was refused, what was no event and how much there was of everything is said on standard error (docs/REPLAY.md).
+#![tactic(auto)]
+
 ghost use Rattle.std.specs.Prelude.{◌≡◌, ◌<◌};
 ghost use Rattle.replay.specs.Plane.{plane_refused, fresh_on};
 
@@ -19,7 +21,7 @@ use wirings::Named;
 mod log;
 
 // The picture's size: words in a line, and lines; and how the memory is wired.
-#[derive(Drop)]
+#[derive(Clone, Copy)]
 pub struct Plane {
     pub across: u32,
     pub down: u32,
@@ -27,7 +29,7 @@ pub struct Plane {
 }
 
 // How far the record is read, what was counted, and what the line that was read says.
-#[derive(Drop)]
+#[derive(Clone, Copy)]
 pub struct Told {
     pub reader: Reader,
     pub tally: Tally,

@@ -1,4 +1,6 @@
 // A record of the bus, replayed: a list of events, each an entry for a port, so many units, or a run until the controller is idle.
+#![tactic(auto)]
+
 ghost use Rattle.std.specs.Prelude.{◌≡◌, min, ◌≤◌, length};
 ghost use Rattle.registers.specs.State.{state};
 ghost use Rattle.finishing.specs.Finish.{outcome as runs};
@@ -9,7 +11,7 @@ use registers::Registers;
 
 // What a list of events is answered with: the number of refusal, how many events were taken, the units that were done, and the
 // registers.
-#[derive(Drop)]
+#[derive(Clone, Copy)]
 pub struct Replayed {
     pub number: u8,
     pub taken: u64,

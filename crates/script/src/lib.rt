@@ -1,17 +1,19 @@
 // A line of the bench's script: its letter and its fields.
+#![tactic(auto)]
+
 ghost use Rattle.std.specs.Prelude.{◌≡◌, ◌≤◌, length};
 ghost use Rattle.script.specs.Digits.{digit_of, more, number_of, bytes_b, byte_of, bytes_put};
 ghost use Rattle.script.specs.Line.{span_of, padded_b, one_of, two_of, fields_of, line_of};
 
 // What a field says, if it is a number.
-#[derive(Drop)]
+#[derive(Clone, Copy)]
 pub enum Number {
     Bad,
     Is(u64),
 }
 
 // What a line says: a letter alone, with a number, with two, or with bytes, two digits each, from the line's third character on.
-#[derive(Drop)]
+#[derive(Clone, Copy)]
 pub enum Line {
     Bad,
     Bare(u8),

@@ -1,4 +1,6 @@
 // An entry is sent to the controller: to its port, and then a run.
+#![tactic(auto)]
+
 ghost use Rattle.std.specs.Prelude.{◌≡◌, [], ◌∷◌};
 ghost use Rattle.registers.specs.State.{state};
 ghost use Rattle.sending.specs.Send.{written};
@@ -10,7 +12,7 @@ use registers::{Mode, Registers, Work};
 
 // What a list of entries is answered with: the number of refusal, how many entries were taken, the units that their runs reported, and
 // the registers.
-#[derive(Drop)]
+#[derive(Clone, Copy)]
 pub struct Listed {
     pub number: u8,
     pub taken: u64,

@@ -1,5 +1,6 @@
 // What a number of refusal means, in the words of document 01 and of 02's M-100 and M-108: the sentence that `listing`, `picture` and
 // `replay` say. And what a sheet costs (M-106), which `picture` says.
+#![tactic(auto)]
 
 // What was refused, and why.
 fn say_meaning(fd: i32, number: u8) -> bool {

@@ -1,4 +1,6 @@
 // Entries in a row that only set registers.
+#![tactic(auto)]
+
 ghost use Rattle.std.specs.Prelude.{◌≡◌, ◌%◌, drop};
 ghost use Rattle.registers.specs.declared.Command.TheVariants.{Wdat};
 ghost use Rattle.registers.specs.Fresh.{fresh_drawing};
@@ -17,7 +19,7 @@ use dots::{Cursor, Operation};
 use registers::{Board, Command, Drawing, Progress, Transfer};
 
 // The registers that such entries set, and the board, which they leave.
-#[derive(Drop)]
+#[derive(Clone, Copy)]
 pub struct Settings {
     pub board: Board,
     pub cursor: Cursor,
@@ -30,7 +32,7 @@ pub struct Settings {
 }
 
 // The registers after such entries, and how many there were.
-#[derive(Drop)]
+#[derive(Clone, Copy)]
 pub struct Settled {
     pub settings: Settings,
     pub count: usize,

@@ -1,4 +1,6 @@
 // The translator of drawing sheets: after the checks of crate refusals, a pass to count the entries, one to write them.
+#![tactic(auto)]
+
 ghost use Rattle.std.specs.Prelude.{◌≡◌, ◌+◌};
 ghost use Rattle.entries.specs.Entries.{placed};
 ghost use Rattle.sheets.specs.Slots.{slot_figures, figures, sized, translated, translation};

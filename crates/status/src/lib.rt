@@ -1,4 +1,6 @@
 // The status byte.
+#![tactic(auto)]
+
 ghost use Rattle.std.specs.Prelude.{◌≡◌, ◌&&◌, ◌+◌, ◌*◌, eqb, ltb};
 ghost use Rattle.registers.specs.Width.{places};
 ghost use Rattle.status.specs.Status.{one_if, figure_in_progress_b, read_mode_b, status_of};

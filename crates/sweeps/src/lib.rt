@@ -1,4 +1,6 @@
 // Many units of an arc at once: the moves of the dots passed over, a walk over the dots before the last, then the last.
+#![tactic(auto)]
+
 ghost use Rattle.std.specs.Prelude.{◌≡◌, ◌-◌};
 ghost use Rattle.bursts.specs.Burst.{burst};
 ghost use Rattle.sweeps.specs.Sweep.{met_by, swept, arc_walk, arc_burst};

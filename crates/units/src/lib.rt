@@ -1,4 +1,6 @@
 // The run with a budget.
+#![tactic(auto)]
+
 ghost use Rattle.std.specs.Prelude.{◌≡◌, ◌-◌};
 ghost use Rattle.dots.specs.declared.Wiring.TheVariants.{Folded};
 ghost use Rattle.registers.specs.Put.{put_cursor, put_work, put_remaining};
@@ -11,7 +13,7 @@ use registers::{Buffer, Mode, Registers, Work};
 use walks::Brush;
 
 // What a run answers: a number of refusal, the units done, why it stopped, and the registers.
-#[derive(Drop)]
+#[derive(Clone, Copy)]
 pub struct Ran {
     pub number: u8,
     pub count: u32,

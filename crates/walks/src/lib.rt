@@ -1,4 +1,6 @@
 // Dots of a figure or a character one after another, each with the step after it, up to a dot that the caller names.
+#![tactic(auto)]
+
 ghost use Rattle.std.specs.Prelude.{◌≡◌, ◌-◌};
 ghost use Rattle.walks.specs.Walk.{least, led, stood, figure_walk, row_walk, rows_walk, next_row};
 
@@ -11,7 +13,7 @@ mod side;
 pub mod steps;
 
 // The registers that a figure or a character is drawn with; its dots leave them as they are.
-#[derive(Drop)]
+#[derive(Clone, Copy)]
 pub struct Brush {
     pub wiring: Wiring,
     pub op: Operation,
@@ -22,7 +24,7 @@ pub struct Brush {
 }
 
 // Where dots of a figure led, and the running D.
-#[derive(Drop)]
+#[derive(Clone, Copy)]
 pub struct Reached {
     pub cursor: Cursor,
     pub d: u16,

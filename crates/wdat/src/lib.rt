@@ -1,4 +1,6 @@
 // WDAT's sets.
+#![tactic(auto)]
+
 ghost use Rattle.std.specs.Prelude.{◌≡◌};
 ghost use Rattle.registers.specs.Put.{put_progress};
 ghost use Rattle.registers.specs.State.{state};

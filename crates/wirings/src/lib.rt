@@ -1,4 +1,6 @@
 // The wiring of a board: named by a word, and put into a register set (02, M-108).
+#![tactic(auto)]
+
 ghost use Rattle.std.specs.Prelude.{◌≡◌};
 ghost use Rattle.wirings.specs.Wired.{wiring_named, wired_as};
 
@@ -6,7 +8,7 @@ use dots::Wiring;
 use registers::{Board, Registers};
 
 // The wiring that a word names, or that it names none.
-#[derive(Drop)]
+#[derive(Clone, Copy)]
 pub enum Named {
     Bad,
     Is(Wiring),

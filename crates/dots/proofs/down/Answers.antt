@@ -1,0 +1,5 @@
+use borrow.Author.Rules.{rules}
+use Rattle.dots.proofs.down.Goals as goal
+
+pub returns : goal.returns
+returns c = rw c.plus.ensures
