@@ -2,7 +2,7 @@
 -- is left
 -- decide; and where all sixteen are below a bound, those held are.
 use mathlib.Core.Path.{◌≡◌, refl, sym, ap, ◌∙◌}
-use mathlib.Core.Bool.{Bool, true, false, cond, ◌&&◌, and-true, and_false}
+use mathlib.Core.Bool.{Bool, true, false, cond, ◌&&◌, and-true, and-false}
 use mathlib.Core.List.{List, [], ◌∷◌, ◌++◌}
 use Prim.Native.Nat.{ℕ, zero, suc, ◌+◌, ◌-◌, ◌≤◌, ◌<◌}
 use native.Mathlib.Omega.{arith}
@@ -46,7 +46,7 @@ module _ (b n : ℕ) (e : List ℕ) where
           rw (m, m')
 
   pub fit_fails : (t : Bool) (i : ℕ) → i < length e → (ltb i n && leb b (get_or e i 0)) ≡ true → (t && rest i) ≡ false
-  fit_fails t i h p = ap (λ (x : Bool). t && x) (one_on i h ∙ (rw p)) ∙ and_false t
+  fit_fails t i h p = ap (λ (x : Bool). t && x) (one_on i h ∙ (rw p)) ∙ and-false t
 
   pub fit_goes_on : (t : Bool) (i : ℕ) → i < length e → (ltb i n && leb b (get_or e i 0)) ≡ false → (t && rest i) ≡ (t && rest (i + 1))
   fit_goes_on t i h p = ap (λ (x : Bool). t && x) (one_on i h ∙ (rw p))

@@ -1,0 +1,12 @@
+-- `buffer_fits` is the definition, by the mode; in write mode the test of all sixteen is enough.
+use Rattle.registers.proofs.BufferLaws.{whole_enough}
+use borrow.Author.Rules.{rules}
+use Rattle.registers.proofs.buffer_fits.Goals as goal
+
+pub returns-in-Write : goal.returns-in-Write
+returns-in-Write c =
+    let b = c.args.b in
+    rw (c.in-Write.is, c.entries_fit.ensures) (whole_enough 512 b.count b.entries)
+
+pub returns-in-Read : goal.returns-in-Read
+returns-in-Read c = rw (c.in-Read.is, c.bytes_fit.ensures)

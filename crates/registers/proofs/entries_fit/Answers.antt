@@ -1,0 +1,25 @@
+-- `entries_fit` tests one entry a turn; those passed and what is left to test decide.
+use Rattle.registers.proofs.BufferLaws.{fit_starts, fit_fails, fit_goes_on, fit_ends}
+use Rattle.registers.specs.Sound.{all_below}
+use borrow.Author.Rules.{rules}
+use lib.ListN.{take, drop}
+use mathlib.Core.Bool.{◌&&◌}
+use mathlib.Core.Logic.{⊎_elim}
+use Prim.Native.Nat.{◌≤◌, ◌-◌}
+use mathlib.Core.Path.{◌≡◌, ◌∙◌, sym}
+use Rattle.registers.proofs.entries_fit.Goals as goal
+
+pub loop-i-init : goal.loop-i-init
+loop-i-init c = (search rules, fit_starts c.args.below c.args.n c.args.entries)
+
+pub loop-i-preserved : goal.loop-i-preserved
+loop-i-preserved c = (
+  search rules,
+  c.loop-i.invariant.1 ∙ ⊎_elim
+      (λ w. fit_fails _ _ _ c.loop-i.fit c.loop-i.i (search rules) w.0.taken ∙ (rw w.1))
+      (λ w. fit_goes_on _ _ _ c.loop-i.fit c.loop-i.i (search rules) w.0.left ∙ (rw w.1))
+      c.if-i-n.branch,
+)
+
+pub returns : goal.returns
+returns c = sym (c.loop-i.invariant.1 ∙ fit_ends _ _ _ c.loop-i.fit c.loop-i.i (search rules))

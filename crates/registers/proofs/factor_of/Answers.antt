@@ -1,0 +1,9 @@
+-- `factor_of` is the definition, word for word.
+use Rattle.registers.specs.Size.{factor_of}
+use mathlib.Core.Path.{refl}
+use borrow.Author.Rules.{rules}
+use Rattle.registers.proofs.factor_of.Goals as goal
+
+pub returns : goal.returns
+unfolding factor_of
+returns c = refl
