@@ -4,10 +4,10 @@ use Rattle.registers.specs.Sound.{all_below}
 use borrow.Author.Rules.{rules}
 use lib.ListN.{take, drop}
 use mathlib.Core.Bool.{◌&&◌}
-use mathlib.Core.Logic.{⊎_elim}
 use Prim.Native.Nat.{◌≤◌, ◌-◌}
 use mathlib.Core.Path.{◌≡◌, ◌∙◌, sym}
 use Rattle.registers.proofs.entries_fit.Goals as goal
+use Rattle.registers.proofs.entries_fit.Goals.{then-i-n, else-i-n}
 
 pub loop-i-init : goal.loop-i-init
 loop-i-init c = (search rules, fit_starts c.args.below c.args.n c.args.entries)
@@ -15,10 +15,9 @@ loop-i-init c = (search rules, fit_starts c.args.below c.args.n c.args.entries)
 pub loop-i-preserved : goal.loop-i-preserved
 loop-i-preserved c = (
   search rules,
-  c.loop-i.invariant.1 ∙ ⊎_elim
-      (λ w. fit_fails _ _ _ c.loop-i.fit c.loop-i.i (search rules) w.0.taken ∙ (rw w.1))
-      (λ w. fit_goes_on _ _ _ c.loop-i.fit c.loop-i.i (search rules) w.0.left ∙ (rw w.1))
-      c.if-i-n.branch,
+  c.loop-i.invariant.1 ∙ elim c.if-i-n.branch [
+    then-i-n w ↦ fit_fails _ _ _ c.loop-i.fit c.loop-i.i (search rules) w.if-i-n.true ∙ (rw w.fit-is)
+    | else-i-n w ↦ fit_goes_on _ _ _ c.loop-i.fit c.loop-i.i (search rules) w.if-i-n.false ∙ (rw w.fit-is) ],
 )
 
 pub returns : goal.returns
