@@ -1,7 +1,7 @@
 -- Form and soundness together, part by part as `fits` tests them: the numbers, the command, what is in progress, the buffer. True
 -- since both are conjunctions, which may be put in another order.
 use mathlib.Core.Path.{◌≡◌, refl, sym, ap, ◌∙◌}
-use mathlib.Core.Bool.{Bool, true, false, ◌&&◌, and_false, and_assoc, and_comm}
+use mathlib.Core.Bool.{Bool, true, false, ◌&&◌, and-false, and_assoc, and_comm}
 use lib.Dec.{ltb, leb}
 use Rattle.registers.specs.Sound.{cursor_b, drawing_b, buffer_b, place_b, work_b, count_b, sound_b}
 use Rattle.plain.specs.declared.PlainRegisters.{PlainRegisters}
@@ -13,7 +13,7 @@ use Rattle.forms.specs.Fit.{placed_b, in_progress_b, numbers_b}
 
 inner : (a b c d : Bool) → ((a && b) && (c && d)) ≡ ((a && c) && (b && d))
 inner true true c d = refl
-inner true false c d = sym (and_false c)
+inner true false c d = sym (and-false c)
 inner false b c d = refl
 
 ordered : (a k w s b p : Bool) → (((a && k) && w) && ((s && b) && p)) ≡ ((((a && s) && k) && (w && p)) && b)

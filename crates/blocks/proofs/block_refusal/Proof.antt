@@ -1,6 +1,6 @@
 -- `block_refusal` gives `block_refusal`: 14 is tested before 15, as there.
 use Rattle.std.proofs.Common.{sym, ◌∙◌, rules, eq-eqb, ne_eqb}
-use borrow.Author.Tests.{not-true, not_false}
+use borrow.Author.Tests.{not-true, not-false}
 use Rattle.blocks.specs.Block.{block_refusal}
 use Rattle.blocks.proofs.block_refusal.Statement.{statement}
 use Rattle.blocks.proofs.block_refusal.Tie as tie
@@ -41,7 +41,7 @@ returns-3 c =
       ← c.before.before.before.before.check-sum.ensures,
       ← c.before.before.before.word_at.ensures,
       eq-eqb _ _ c.before.before.if1.false,
-      sym c.before.headed.ensures ∙ not_false _ c.if2.false,
+      sym c.before.headed.ensures ∙ not-false _ c.if2.false,
     )
 
 pub block-refusal-spec : {M : Type 1} → statement M

@@ -2,7 +2,7 @@
 use Rattle.bus.proofs.BytesLaws.{turned_away, resets, turns_back, queues}
 use Rattle.bus.specs.Bytes.{granted_plain, answer_held}
 use mathlib.Core.Path.{sym, ap, ◌∙◌}
-use borrow.Author.Tests.{not-true, not_false}
+use borrow.Author.Tests.{not-true, not-false}
 use borrow.Author.Rules.{rules}
 use Rattle.bus.proofs.command.Statement.{statement}
 use Rattle.bus.proofs.command.Tie as tie
@@ -28,7 +28,7 @@ returns-2 : tie.Need-returns-2
 returns-2 c =
     let a = c.before.before.before.before.before.args in
     c.grant.ensures ∙ ap granted_plain c.before.reset-plain.ensures
-    ∙ resets a.r a.byte (sym c.before.before.before.before.fits2.ensures ∙ not_false _ c.before.before.before.if1.false)
+    ∙ resets a.r a.byte (sym c.before.before.before.before.fits2.ensures ∙ not-false _ c.before.before.before.if1.false)
     c.before.before.if2.true
 
 add-e : tie.Need-overflow-add-e
@@ -45,7 +45,7 @@ returns-3 c =
     let a = c.before.before.before.before.before.before.before.args in
     c.grant2.ensures ∙ ap granted_plain c.before.turned_plain.ensures
     ∙ turns_back a.r a.byte (sym c.before.before.before.before.before.before.fits2.ensures
-    ∙ not_false _ c.before.before.before.before.before.if1.false) c.before.before.before.before.if2.false
+    ∙ not-false _ c.before.before.before.before.before.if1.false) c.before.before.before.before.if2.false
     c.before.before.if3.true
 
 held-written-requires : tie.Need-held-written-requires
@@ -56,7 +56,7 @@ returns-4 c =
     let a = c.before.before.before.before.before.before.before.args in
     ap (answer_held a.r) c.before.held-written.ensures
     ∙ queues a.r a.byte (sym c.before.before.before.before.before.before.fits2.ensures
-    ∙ not_false _ c.before.before.before.before.before.if1.false) c.before.before.before.before.if2.false
+    ∙ not-false _ c.before.before.before.before.before.if1.false) c.before.before.before.before.if2.false
     c.before.before.if3.false
 
 pub command-spec : {M : Type 1} → statement M

@@ -1,6 +1,6 @@
 -- `slot_share` gives the share of `slot_figures`: none, or one record.
 use mathlib.Core.Path.{sym, ◌∙◌}
-use borrow.Author.Tests.{not-true, not_false}
+use borrow.Author.Tests.{not-true, not-false}
 use Rattle.sheets.proofs.SlotLaws.{none, bad, good}
 use Rattle.costs.proofs.CostLaws.{share_none, share_one}
 use borrow.Author.Rules.{rules}
@@ -24,7 +24,7 @@ enum_told c = search rules
 
 returns-2 : tie.Need-returns-2
 returns-2 c =
-    share_none (bad _ _ _ (sym c.before.before.before.before.used.ensures ∙ not_false _ c.before.before.before.if1.false)
+    share_none (bad _ _ _ (sym c.before.before.before.before.used.ensures ∙ not-false _ c.before.before.before.if1.false)
     c.before.before.slot-decoded.ensures c.enum_told.given.1)
 
 size-of-requires : tie.Need-size-of-requires
@@ -37,7 +37,7 @@ returns-3 : tie.Need-returns-3
 returns-3 c =
     share_one
     (good _ _ _ (sym c.before.before.before.before.before.before.before.used.ensures
-    ∙ not_false _ c.before.before.before.before.before.before.if1.false)
+    ∙ not-false _ c.before.before.before.before.before.before.if1.false)
     c.before.before.before.before.before.slot-decoded.ensures
     c.before.before.before.d.given.1)
     c.before.type_size.ensures c.figure-dots.ensures

@@ -1,6 +1,6 @@
 -- `draw_sheet` is `sheet_drawn`: one law of DrawLaws for each way out.
 use mathlib.Core.Path.{sym, ◌∙◌}
-use borrow.Author.Tests.{not-true, not_false}
+use borrow.Author.Tests.{not-true, not-false}
 use Rattle.drawing.proofs.DrawLaws.{way_unsound, way_mislong, way_larger, way_refused, way_sent, part_fits, part_long}
 use borrow.Author.Rules.{rules}
 use Rattle.drawing.proofs.draw_sheet.Statement.{statement}
@@ -25,7 +25,7 @@ refuse-requires-2 c κs = search rules
 returns-2 : tie.Need-returns-2
 returns-2 c =
     way_mislong _ _ _ _ _ _ _ (sym c.before.before.before.before.before.sound.ensures
-    ∙ not_false _ c.before.before.before.before.if1.false)
+    ∙ not-false _ c.before.before.before.before.if1.false)
     (sym c.before.before.length-right.ensures ∙ not-true _ c.before.if2.true) c.refuse2.ensures
 
 larger-requires : tie.Need-larger-requires
@@ -37,8 +37,8 @@ refuse-requires-3 c κs = search rules
 returns-3 : tie.Need-returns-3
 returns-3 c =
     way_larger _ _ _ _ _ _ _ (sym c.before.before.before.before.before.before.before.sound.ensures
-    ∙ not_false _ c.before.before.before.before.before.before.if1.false)
-    (sym c.before.before.before.before.length-right.ensures ∙ not_false _ c.before.before.before.if2.false)
+    ∙ not-false _ c.before.before.before.before.before.before.if1.false)
+    (sym c.before.before.before.before.length-right.ensures ∙ not-false _ c.before.before.before.if2.false)
     (sym c.before.before.larger.ensures ∙ c.before.if3.true) c.refuse3.ensures
 
 translate-requires : tie.Need-translate-requires
@@ -54,8 +54,8 @@ returns-4 : tie.Need-returns-4
 returns-4 c =
     let d = c.before.before.before.before.before in
     way_refused _ _ _ _ _ _ _ (sym d.before.before.before.before.before.before.before.before.sound.ensures
-    ∙ not_false _ d.before.before.before.before.before.before.before.if1.false)
-    (sym d.before.before.before.before.before.length-right.ensures ∙ not_false _ d.before.before.before.before.if2.false)
+    ∙ not-false _ d.before.before.before.before.before.before.before.if1.false)
+    (sym d.before.before.before.before.before.length-right.ensures ∙ not-false _ d.before.before.before.before.if2.false)
     (sym d.before.before.before.larger.ensures ∙ d.before.before.if3.false) d.translate.ensures
     c.before.if4.true c.refuse4.ensures
 
@@ -88,8 +88,8 @@ returns-5 : tie.Need-returns-5
 returns-5 c =
     let d = c.before.before.before.before.before.before.before.before.before.before.before.before.before.before.before in
     way_sent _ _ _ _ _ _ _ (sym d.before.before.before.before.before.before.before.before.sound.ensures
-    ∙ not_false _ d.before.before.before.before.before.before.before.if1.false)
-    (sym d.before.before.before.before.before.length-right.ensures ∙ not_false _ d.before.before.before.before.if2.false)
+    ∙ not-false _ d.before.before.before.before.before.before.before.if1.false)
+    (sym d.before.before.before.before.before.length-right.ensures ∙ not-false _ d.before.before.before.before.if2.false)
     (sym d.before.before.before.larger.ensures ∙ d.before.before.if3.false) d.translate.ensures
     c.before.before.before.before.before.before.before.before.before.before.before.if4.false
     c.before.before.before.before.before.before.before.before.before.finish.ensures

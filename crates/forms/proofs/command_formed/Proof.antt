@@ -1,6 +1,6 @@
 -- `command_formed` is the definition: with no transfer beside it any command is formed, with one WDAT and RDAT alone.
 use mathlib.Core.Path.{◌≡◌, refl, sym}
-use mathlib.Core.Bool.{Bool, true, false, cond, ◌&&◌, ◌||◌, and-true, and_false}
+use mathlib.Core.Bool.{Bool, true, false, cond, ◌&&◌, ◌||◌, and-true, and-false}
 use Prim.Native.Nat.{ℕ}
 use native.Mathlib.Decide.{ℕ_discrete}
 use borrow.Author.Tests.{ne_eqb}
@@ -19,7 +19,7 @@ any_command n = go (ℕ_discrete n 15) (ℕ_discrete n 16)
 
 beside : (w a b : Bool) → (w && a) ≡ cond w a (b && false)
 beside true a b = refl
-beside false a b = sym (and_false b)
+beside false a b = sym (and-false b)
 
 returns : tie.Need-returns
 returns c = rw c.if1.true (any_command c.before.args.n)

@@ -1,7 +1,7 @@
 -- `fits` tests part by part (`by_parts`): the first part that does not fit decides.
 use Rattle.forms.proofs.FitLaws.{by_parts}
 use mathlib.Core.Path.{refl, sym, ◌∙◌}
-use borrow.Author.Tests.{not-true, not_false}
+use borrow.Author.Tests.{not-true, not-false}
 use borrow.Author.Rules.{rules}
 use Rattle.forms.proofs.fits.Statement.{statement}
 use Rattle.forms.proofs.fits.Tie as tie
@@ -21,7 +21,7 @@ command-formed-requires c κs = search rules
 returns-2 : tie.Need-returns-2
 returns-2 c =
     by_parts c.before.before.before.before.args.p
-    (sym (not_false _ c.before.before.if1.false) ∙ c.before.before.before.numbers_fit.ensures)
+    (sym (not-false _ c.before.before.if1.false) ∙ c.before.before.before.numbers_fit.ensures)
     (sym (not-true _ c.if2.true) ∙ c.before.command-formed.ensures)
     refl refl
 
@@ -31,8 +31,8 @@ work-fits-requires c κs = search rules
 returns-3 : tie.Need-returns-3
 returns-3 c =
     by_parts c.before.before.before.before.before.before.args.p
-    (sym (not_false _ c.before.before.before.before.if1.false) ∙ c.before.before.before.before.before.numbers_fit.ensures)
-    (sym (not_false _ c.before.before.if2.false) ∙ c.before.before.before.command-formed.ensures)
+    (sym (not-false _ c.before.before.before.before.if1.false) ∙ c.before.before.before.before.before.numbers_fit.ensures)
+    (sym (not-false _ c.before.before.if2.false) ∙ c.before.before.before.command-formed.ensures)
     (sym (not-true _ c.if3.true) ∙ c.before.work_fits.ensures)
     refl
 
@@ -48,11 +48,11 @@ buffer-fits-requires c κs = search rules
 returns-4 : tie.Need-returns-4
 returns-4 c =
     by_parts c.before.before.before.before.before.before.before.before.before.args.p
-    (sym (not_false _ c.before.before.before.before.before.before.before.if1.false)
+    (sym (not-false _ c.before.before.before.before.before.before.before.if1.false)
     ∙ c.before.before.before.before.before.before.before.before.numbers_fit.ensures)
-    (sym (not_false _ c.before.before.before.before.before.if2.false)
+    (sym (not-false _ c.before.before.before.before.before.if2.false)
     ∙ c.before.before.before.before.before.before.command-formed.ensures)
-    (sym (not_false _ c.before.before.before.if3.false) ∙ c.before.before.before.before.work_fits.ensures)
+    (sym (not-false _ c.before.before.before.if3.false) ∙ c.before.before.before.before.work_fits.ensures)
     (rw (c.before.buffer-of.ensures, c.before.before.Mode-of.ensures) at c.buffer-fits.ensures)
 
 pub fits-spec : {M : Type 1} → statement M

@@ -1,6 +1,6 @@
 -- `send_all` is `list_sent`: the run's two tests in their order, else the entries that are looked at.
 use mathlib.Core.Path.{sym, ◌∙◌}
-use borrow.Author.Tests.{not-true, not_false}
+use borrow.Author.Tests.{not-true, not-false}
 use borrow.Author.Rules.{rules}
 use Rattle.sends.proofs.SendLaws.{way_unsound, way_mislong, way_sent, looked_long, looked_few}
 use Rattle.lists.proofs.send_all.Statement.{statement}
@@ -17,7 +17,7 @@ length-right-requires c κs = search rules
 
 returns-2 : tie.Need-returns-2
 returns-2 c =
-    way_mislong _ _ (sym c.before.before.before.before.sound.ensures ∙ not_false _ c.before.before.before.if1.false)
+    way_mislong _ _ (sym c.before.before.before.before.sound.ensures ∙ not-false _ c.before.before.before.if1.false)
     (sym c.before.length-right.ensures ∙ not-true _ c.if2.true)
 
 looked-at-requires : tie.Need-looked-at-requires
@@ -29,9 +29,9 @@ slice-aggregate-send-on c = looked_long _ c.before.looked_at.ensures
 send-on-requires : tie.Need-send-on-requires
 send-on-requires c κs = (
   sym c.before.before.before.before.before.before.before.sound.ensures
-      ∙ not_false _ c.before.before.before.before.before.before.if1.false,
+      ∙ not-false _ c.before.before.before.before.before.before.if1.false,
   (
-    sym c.before.before.before.before.length-right.ensures ∙ not_false _ c.before.before.before.if2.false,
+    sym c.before.before.before.before.length-right.ensures ∙ not-false _ c.before.before.before.if2.false,
     looked_few _ c.before.before.looked_at.ensures,
   ),
 )
@@ -42,9 +42,9 @@ same_length c = search rules
 returns-3 : tie.Need-returns-3
 returns-3 c =
     way_sent _ _ (sym c.before.before.before.before.before.before.before.before.before.before.sound.ensures
-    ∙ not_false _ c.before.before.before.before.before.before.before.before.before.if1.false)
+    ∙ not-false _ c.before.before.before.before.before.before.before.before.before.if1.false)
     (sym c.before.before.before.before.before.before.before.length-right.ensures
-    ∙ not_false _ c.before.before.before.before.before.before.if2.false)
+    ∙ not-false _ c.before.before.before.before.before.before.if2.false)
     c.before.before.before.before.before.looked_at.ensures c.before.before.send-on.ensures
 
 pub send-all-spec : {M : Type 1} → statement M

@@ -1,6 +1,6 @@
 -- `kranichseil_pen` refuses what is no register set; else it asks the controller, and gives its answer in plain numbers.
 use mathlib.Core.Path.{sym, ◌∙◌}
-use borrow.Author.Tests.{not-true, not_false}
+use borrow.Author.Tests.{not-true, not-false}
 use borrow.Author.Rules.{rules}
 use Rattle.mirror.proofs.kranichseil_pen.Statement.{statement}
 use Rattle.mirror.proofs.kranichseil_pen.Tie as tie
@@ -26,7 +26,7 @@ answer-plain-requires c κs = search rules
 returns-2 : tie.Need-returns-2
 returns-2 c =
     rw (
-      sym c.before.before.before.before.formed.ensures ∙ not_false _ c.before.before.before.if1.false,
+      sym c.before.before.before.before.formed.ensures ∙ not-false _ c.before.before.before.if1.false,
       c.answer-plain.ensures,
       c.before.post-pen.ensures,
       c.before.before.from-plain.ensures,

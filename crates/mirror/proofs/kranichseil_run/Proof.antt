@@ -1,7 +1,7 @@
 -- `kranichseil_run` refuses what is no register set; else it runs the controller, and gives its answer in plain numbers.
 use Rattle.mirror.proofs.AskedLaws.{runs}
 use mathlib.Core.Path.{sym, ◌∙◌}
-use borrow.Author.Tests.{not-true, not_false}
+use borrow.Author.Tests.{not-true, not-false}
 use borrow.Author.Rules.{rules}
 use Rattle.mirror.proofs.kranichseil_run.Statement.{statement}
 use Rattle.mirror.proofs.kranichseil_run.Tie as tie
@@ -27,7 +27,7 @@ same_length c = search rules
 returns-2 : tie.Need-returns-2
 returns-2 c =
     runs _ _ _ (sym c.before.before.before.before.before.before.before.formed.ensures
-    ∙ not_false _ c.before.before.before.before.before.before.if1.false)
+    ∙ not-false _ c.before.before.before.before.before.before.if1.false)
     c.before.before.before.before.before.from-plain.ensures c.before.before.before.run.ensures
     c.ran-plain.ensures
 

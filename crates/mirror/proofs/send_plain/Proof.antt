@@ -1,7 +1,7 @@
 -- `send_plain` refuses what is no register set; else it sends the entries, and gives the answer in plain numbers.
 use Rattle.mirror.proofs.AskedLaws.{sends}
 use mathlib.Core.Path.{sym, ◌∙◌}
-use borrow.Author.Tests.{not-true, not_false}
+use borrow.Author.Tests.{not-true, not-false}
 use borrow.Author.Rules.{rules}
 use Rattle.mirror.proofs.send_plain.Statement.{statement}
 use Rattle.mirror.proofs.send_plain.Tie as tie
@@ -27,7 +27,7 @@ same_length c = search rules
 returns-2 : tie.Need-returns-2
 returns-2 c =
     sends _ _ _ (sym c.before.before.before.before.before.before.before.formed.ensures
-    ∙ not_false _ c.before.before.before.before.before.before.if1.false)
+    ∙ not-false _ c.before.before.before.before.before.before.if1.false)
     c.before.before.before.before.before.from-plain.ensures c.before.before.before.send-all.ensures
     c.sent-plain.ensures
 

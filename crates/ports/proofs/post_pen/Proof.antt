@@ -2,7 +2,7 @@
 use Rattle.dots.specs.Step.{addresses}
 use Rattle.ports.proofs.PortLaws.{turned_away, let_through}
 use Rattle.ports.specs.Port.{pen_posted}
-use borrow.Author.Tests.{not-true, not_false, le-leb, lt-leb}
+use borrow.Author.Tests.{not-true, not-false, le-leb, lt-leb}
 use borrow.Author.Rules.{rules}
 use Rattle.ports.proofs.post_pen.Statement.{statement}
 use Rattle.ports.proofs.post_pen.Tie as tie
@@ -23,7 +23,7 @@ refuse-requires-2 c κs = search rules
 returns-2 : tie.Need-returns-2
 unfolding pen_posted
 returns-2 c =
-    let_through _ _ c.before.before.before.sound.ensures (not_false _ c.before.before.if1.false)
+    let_through _ _ c.before.before.before.sound.ensures (not-false _ c.before.before.if1.false)
     (rw (le-leb addresses c.before.before.before.before.args.address c.before.if2.true) c.refuse2.ensures)
 
 put-pen-requires : tie.Need-put-pen-requires
@@ -35,7 +35,7 @@ grant-requires c κs = search rules
 returns-3 : tie.Need-returns-3
 unfolding pen_posted
 returns-3 c =
-    let_through _ _ c.before.before.before.before.sound.ensures (not_false _ c.before.before.before.if1.false)
+    let_through _ _ c.before.before.before.before.sound.ensures (not-false _ c.before.before.before.if1.false)
     (rw (
       lt-leb addresses c.before.before.before.before.before.args.address c.before.before.if2.false,
       ← c.before.put-pen.ensures,

@@ -1,7 +1,7 @@
 -- `read_status` refuses an unsound set, and else is the definition (`turned_away`, `let_through`).
 use Rattle.ports.proofs.PortLaws.{turned_away, let_through}
 use Rattle.ports.specs.Port.{status_read}
-use borrow.Author.Tests.{not-true, not_false}
+use borrow.Author.Tests.{not-true, not-false}
 use borrow.Author.Rules.{rules}
 use Rattle.ports.proofs.read_status.Statement.{statement}
 use Rattle.ports.proofs.read_status.Tie as tie
@@ -25,7 +25,7 @@ grant-requires c κs = search rules
 returns-2 : tie.Need-returns-2
 unfolding status_read
 returns-2 c =
-    let_through _ _ c.before.before.before.sound.ensures (not_false _ c.before.before.if1.false)
+    let_through _ _ c.before.before.before.sound.ensures (not-false _ c.before.before.if1.false)
     (rw (← c.before.status-of.ensures) c.grant.ensures)
 
 pub read-status-spec : {M : Type 1} → statement M

@@ -1,7 +1,7 @@
 -- `write_command` refuses an unsound set, and else is the definition (`turned_away`, `let_through`).
 use Rattle.ports.proofs.PortLaws.{turned_away, let_through}
 use Rattle.ports.specs.Port.{command_written}
-use borrow.Author.Tests.{not-true, not_false, eq-eqb, ne_eqb}
+use borrow.Author.Tests.{not-true, not-false, eq-eqb, ne_eqb}
 use borrow.Author.Rules.{rules}
 use Rattle.ports.proofs.write_command.Statement.{statement}
 use Rattle.ports.proofs.write_command.Tie as tie
@@ -25,7 +25,7 @@ grant-requires c κs = search rules
 returns-2 : tie.Need-returns-2
 unfolding command_written
 returns-2 c =
-    let_through _ _ c.before.before.before.before.sound.ensures (not_false _ c.before.before.before.if1.false)
+    let_through _ _ c.before.before.before.before.sound.ensures (not-false _ c.before.before.before.if1.false)
     (rw (
       eq-eqb c.before.before.before.before.before.args.byte 0 c.before.before.if2.true,
       ← c.before.reset-done.ensures,
@@ -37,7 +37,7 @@ command-in-requires c κs = search rules
 returns-3 : tie.Need-returns-3
 unfolding command_written
 returns-3 c =
-    let_through _ _ c.before.before.before.sound.ensures (not_false _ c.before.before.if1.false)
+    let_through _ _ c.before.before.before.sound.ensures (not-false _ c.before.before.if1.false)
     (rw (ne_eqb c.before.before.before.before.args.byte 0 c.before.if2.false) c.command_in_law.ensures)
 
 pub write-command-spec : {M : Type 1} → statement M

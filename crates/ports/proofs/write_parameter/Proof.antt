@@ -1,7 +1,7 @@
 -- `write_parameter` refuses an unsound set, and else is the definition (`turned_away`, `let_through`).
 use Rattle.ports.proofs.PortLaws.{turned_away, let_through}
 use Rattle.ports.specs.Port.{parameter_written}
-use borrow.Author.Tests.{not-true, not_false}
+use borrow.Author.Tests.{not-true, not-false}
 use borrow.Author.Rules.{rules}
 use Rattle.ports.proofs.write_parameter.Statement.{statement}
 use Rattle.ports.proofs.write_parameter.Tie as tie
@@ -21,7 +21,7 @@ parameter-in-requires c κs = search rules
 
 returns-2 : tie.Need-returns-2
 unfolding parameter_written
-returns-2 c = let_through _ _ c.before.before.sound.ensures (not_false _ c.before.if1.false) c.parameter_in_law.ensures
+returns-2 c = let_through _ _ c.before.before.sound.ensures (not-false _ c.before.if1.false) c.parameter_in_law.ensures
 
 pub write-parameter-spec : {M : Type 1} → statement M
 write-parameter-spec =

@@ -1,6 +1,6 @@
 -- `slot_refusal` gives `slot_refusal`: an unused slot has none.
 use mathlib.Core.Path.{sym, ◌∙◌}
-use borrow.Author.Tests.{not-true, not_false}
+use borrow.Author.Tests.{not-true, not-false}
 use Rattle.refusals.proofs.RefusalLaws.{not_refused, number_is}
 use borrow.Author.Rules.{rules}
 use Rattle.refusals.proofs.slot_refusal.Statement.{statement}
@@ -20,7 +20,7 @@ number-of-requires c κs = search rules
 
 returns-2 : tie.Need-returns-2
 returns-2 c =
-    number_is _ _ _ (sym c.before.before.before.used.ensures ∙ not_false _ c.before.before.if1.false)
+    number_is _ _ _ (sym c.before.before.before.used.ensures ∙ not-false _ c.before.before.if1.false)
     c.before.slot-decoded.ensures c.number_of_lem.ensures
 
 pub slot-refusal-spec : {M : Type 1} → statement M

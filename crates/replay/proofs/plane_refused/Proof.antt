@@ -1,6 +1,6 @@
 -- `plane_refused` gives `plane_refused`: the same tests; two 32-bit numbers have a product of 64 bits.
 use Rattle.std.proofs.Common.{◌*◌, ◌≤◌, sym, ◌∙◌, mul-le-mul, arith, rules, le-ltb, lt-ltb}
-use borrow.Author.Tests.{not-true, not_false}
+use borrow.Author.Tests.{not-true, not-false}
 use Rattle.replay.specs.Plane.{plane_refused}
 use Rattle.replay.proofs.plane_refused.Statement.{statement}
 use Rattle.replay.proofs.plane_refused.Tie as tie
@@ -19,7 +19,7 @@ returns-2 : tie.Need-returns-2
 unfolding plane_refused
 returns-2 c =
     rw (
-      sym c.before.before.before.length-right.ensures ∙ not_false _ c.before.before.if1.false,
+      sym c.before.before.before.length-right.ensures ∙ not-false _ c.before.before.if1.false,
       sym c.before.plane-fits.ensures ∙ not-true _ c.if2.true,
     )
 
@@ -33,8 +33,8 @@ returns-3 : tie.Need-returns-3
 unfolding plane_refused
 returns-3 c =
     rw (
-      sym c.before.before.before.before.length-right.ensures ∙ not_false _ c.before.before.before.if1.false,
-      sym c.before.before.plane-fits.ensures ∙ not_false _ c.before.if2.false,
+      sym c.before.before.before.before.length-right.ensures ∙ not-false _ c.before.before.before.if1.false,
+      sym c.before.before.plane-fits.ensures ∙ not-false _ c.before.if2.false,
       lt-ltb _ _ c.if3.true,
     )
 
@@ -42,8 +42,8 @@ returns-4 : tie.Need-returns-4
 unfolding plane_refused
 returns-4 c =
     rw (
-      sym c.before.before.before.before.length-right.ensures ∙ not_false _ c.before.before.before.if1.false,
-      sym c.before.before.plane-fits.ensures ∙ not_false _ c.before.if2.false,
+      sym c.before.before.before.before.length-right.ensures ∙ not-false _ c.before.before.before.if1.false,
+      sym c.before.before.plane-fits.ensures ∙ not-false _ c.before.if2.false,
       le-ltb _ _ c.if3.false,
     )
 

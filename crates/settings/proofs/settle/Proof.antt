@@ -16,7 +16,7 @@ use Rattle.settings.proofs.DataLaws.{beyond, none_before, all_before}
 use Rattle.settings.proofs.SettleLaws.{Onward, counting, by_command, by_parameter, by_data, data_counted, settle_ended, settle_past}
 use Rattle.settings.proofs.SettleLaws.{turned}
 use Rattle.registers.proofs.BoolLaws.{false_true}
-use borrow.Author.Tests.{not-true, not_false}
+use borrow.Author.Tests.{not-true, not-false}
 use Rattle.settings.proofs.settle.Statement.{statement}
 use Rattle.settings.proofs.settle.Tie as tie
 
@@ -128,7 +128,7 @@ turn : (c : tie.Joined2 invariant-loop decreases-loop)
 turn c =
     let p = c.before.before.before.before.before.before.loop.p in
     let more = c.before.before.before.before.before.loop-test.true in
-    let ok = sym c.before.before.settable.ensures ∙ not_false _ c.before.if1.false in
+    let ok = sym c.before.before.settable.ensures ∙ not-false _ c.before.if1.false in
     ⊎_elim (λ w. by_command _ _ _ _ _ more ok w.4 w.0.taken w.1.ensures w.2 w.3)
     (⊎_elim (λ w. by_parameter _ _ _ _ _ more ok w.9 w.0.left w.4.given.1 w.1.ensures w.7
     (w.8 ∙ ap (set_drawing (counting p w.1.result)) w.6.ensures) refl)

@@ -1,6 +1,6 @@
 -- `put_slot` puts the entries of `slot_figures`: none, or one record's.
 use mathlib.Core.Path.{sym, ◌∙◌}
-use borrow.Author.Tests.{not-true, not_false}
+use borrow.Author.Tests.{not-true, not-false}
 use Rattle.sheets.proofs.SlotLaws.{none, bad, good, put_none, put_one}
 use borrow.Author.Rules.{rules}
 use Rattle.sheets.proofs.put_slot.Statement.{statement}
@@ -24,7 +24,7 @@ enum_told c = search rules
 returns-2 : tie.Need-returns-2
 returns-2 c =
     put_none _ _ _ _
-    (bad _ _ _ (sym c.before.before.before.before.used.ensures ∙ not_false _ c.before.before.before.if1.false)
+    (bad _ _ _ (sym c.before.before.before.before.used.ensures ∙ not-false _ c.before.before.before.if1.false)
     c.before.before.slot-decoded.ensures
     c.enum_told.given.1)
 
@@ -41,7 +41,7 @@ returns-3 : tie.Need-returns-3
 returns-3 c =
     put_one _ _ _ _
     (good _ _ _ (sym c.before.before.before.before.before.before.before.before.before.before.used.ensures
-    ∙ not_false _ c.before.before.before.before.before.before.before.before.before.if1.false)
+    ∙ not-false _ c.before.before.before.before.before.before.before.before.before.if1.false)
     c.before.before.before.before.before.before.before.before.slot-decoded.ensures
     c.before.before.before.before.before.before.d.given.1) c.type_size.ensures c.before.before.before.put_record.ensures
 

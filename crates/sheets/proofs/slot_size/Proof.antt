@@ -1,6 +1,6 @@
 -- `slot_size` gives the size of `slot_figures`: none, or one record.
 use mathlib.Core.Path.{sym, ◌∙◌}
-use borrow.Author.Tests.{not-true, not_false}
+use borrow.Author.Tests.{not-true, not-false}
 use Rattle.sheets.proofs.SlotLaws.{none, bad, good, size_none, size_one}
 use borrow.Author.Rules.{rules}
 use Rattle.sheets.proofs.slot_size.Statement.{statement}
@@ -23,7 +23,7 @@ enum_told c = search rules
 
 returns-2 : tie.Need-returns-2
 returns-2 c =
-    size_none (bad _ _ _ (sym c.before.before.before.before.used.ensures ∙ not_false _ c.before.before.before.if1.false)
+    size_none (bad _ _ _ (sym c.before.before.before.before.used.ensures ∙ not-false _ c.before.before.before.if1.false)
     c.before.before.slot-decoded.ensures c.enum_told.given.1)
 
 size-of-requires : tie.Need-size-of-requires
@@ -33,7 +33,7 @@ returns-3 : tie.Need-returns-3
 returns-3 c =
     size_one
     (good _ _ _ (sym c.before.before.before.before.before.before.used.ensures
-    ∙ not_false _ c.before.before.before.before.before.if1.false) c.before.before.before.before.slot-decoded.ensures
+    ∙ not-false _ c.before.before.before.before.before.if1.false) c.before.before.before.before.slot-decoded.ensures
     c.before.before.d.given.1)
     c.type_size.ensures
 

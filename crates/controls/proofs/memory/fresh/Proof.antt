@@ -1,7 +1,7 @@
 -- `fresh` gives `fresh_done`: the same test.
 use borrow.Author.Rules.{rules}
 use mathlib.Core.Path.{sym, ◌∙◌}
-use borrow.Author.Tests.{not-true, not_false}
+use borrow.Author.Tests.{not-true, not-false}
 use Rattle.controls.proofs.MemoryLaws.{length_wrong, made_fresh}
 use Rattle.controls.proofs.memory.fresh.Statement.{statement}
 use Rattle.controls.proofs.memory.fresh.Tie as tie
@@ -32,7 +32,7 @@ returns-2 : tie.Need-returns-2
 returns-2 c =
     let l = c.before.before.before.before.before.before.before in
     made_fresh _ _ _ _ _ l.before.fresh-letter.ensures
-    (sym l.length-right.ensures ∙ not_false _ c.before.before.before.before.before.before.if1.false)
+    (sym l.length-right.ensures ∙ not-false _ c.before.before.before.before.before.before.if1.false)
     c.before.before.before.before.clear_first.ensures c.before.fresh.ensures c.wired.ensures
 
 pub fresh-spec : {M : Type 1} → statement M

@@ -1,7 +1,7 @@
 -- `more_sheet` gives `more_sheet`: its two tests of the length are one of the sum.
 use borrow.Author.Rules.{rules}
 use mathlib.Core.Path.{sym, ◌∙◌}
-use borrow.Author.Tests.{not-true, not_false}
+use borrow.Author.Tests.{not-true, not-false}
 use native.Mathlib.Omega.{arith}
 use Rattle.easel.proofs.PaperLaws.{sheet_long, sheet_wrong, sheet_more}
 use Rattle.easel.proofs.paper.more_sheet.Statement.{statement}
@@ -54,7 +54,7 @@ returns-4 c =
       c.before.before.before.before.before.before.before.if2.false,
     ))
     (sym c.before.before.before.before.before.before.bytes-right.ensures
-    ∙ not_false _ c.before.before.before.before.before.if3.false) c.before.before.before.put-bytes.ensures
+    ∙ not-false _ c.before.before.before.before.before.if3.false) c.before.before.before.put-bytes.ensures
     c.sheet-is.ensures
 
 pub more-sheet-spec : {M : Type 1} → statement M

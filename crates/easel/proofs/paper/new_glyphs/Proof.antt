@@ -1,7 +1,7 @@
 -- `new_glyphs` gives `new_glyphs`: the same tests.
 use borrow.Author.Rules.{rules}
 use mathlib.Core.Path.{sym, ◌∙◌}
-use borrow.Author.Tests.{not-true, not_false}
+use borrow.Author.Tests.{not-true, not-false}
 use Rattle.easel.proofs.PaperLaws.{glyphs_many, glyphs_wrong, glyphs_new}
 use Rattle.easel.proofs.paper.new_glyphs.Statement.{statement}
 use Rattle.easel.proofs.paper.new_glyphs.Tie as tie
@@ -37,7 +37,7 @@ returns-3 : tie.Need-returns-3
 returns-3 c =
     glyphs_new _ _ _ c.before.before.before.before.before.before.before.if1.false
     (sym c.before.before.before.before.before.before.bytes-right.ensures
-    ∙ not_false _ c.before.before.before.before.before.if2.false)
+    ∙ not-false _ c.before.before.before.before.before.if2.false)
     c.before.before.before.put-bytes.ensures c.glyphs-are.ensures
 
 pub new-glyphs-spec : {M : Type 1} → statement M

@@ -1,0 +1,6 @@
+-- `turns` is the definition.
+use borrow.Author.Rules.{rules}
+use Rattle.arcs.proofs.turns.Goals as goal
+
+pub returns : goal.returns
+returns c = rw c.gain.ensures

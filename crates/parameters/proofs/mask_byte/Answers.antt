@@ -1,0 +1,18 @@
+-- `mask_byte` is the definition, byte by byte.
+use Rattle.parameters.specs.Parameter.{mask_by}
+use borrow.Author.Tests.{ne_eqb}
+use borrow.Author.Rules.{rules}
+use Rattle.parameters.proofs.mask_byte.Goals as goal
+
+pub returns-in-0 : goal.returns-in-0
+unfolding mask_by
+returns-in-0 c = rw (c.low_byte.ensures, c.in-0.is)
+
+pub returns-in-1 : goal.returns-in-1
+unfolding mask_by
+returns-in-1 c = rw (c.high_byte.ensures, c.in-1.is)
+
+pub returns-in_default : goal.returns-in_default
+unfolding mask_by
+returns-in_default c = let n = c.in_default.in_default-own.rest in
+    rw (ne_eqb _ 0 n.0.1, ne_eqb _ 1 n.1)

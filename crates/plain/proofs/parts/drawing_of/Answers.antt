@@ -1,0 +1,6 @@
+-- `drawing_of` is the definition, with its bit.
+use borrow.Author.Rules.{rules}
+use Rattle.plain.proofs.parts.drawing_of.Goals as goal
+
+pub returns : goal.returns
+returns c = rw c.bit_of.ensures

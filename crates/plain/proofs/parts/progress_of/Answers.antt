@@ -1,0 +1,6 @@
+-- `progress_of` is the definition, with its command.
+use borrow.Author.Rules.{rules}
+use Rattle.plain.proofs.parts.progress_of.Goals as goal
+
+pub returns : goal.returns
+returns c = rw c.command_of-command.ensures

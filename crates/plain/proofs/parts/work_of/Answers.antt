@@ -1,0 +1,20 @@
+-- `work_of` is the definition: at each kind it computes; any other number is taken for an arc.
+use borrow.Author.Tests.{ne_eqb}
+use borrow.Author.Rules.{rules}
+use Rattle.plain.proofs.parts.work_of.Goals as goal
+
+pub returns-in-0 : goal.returns-in-0
+returns-in-0 c = rw c.in-0.is
+
+pub returns-in-1 : goal.returns-in-1
+returns-in-1 c = rw c.in-1.is
+
+pub returns-in-2 : goal.returns-in-2
+returns-in-2 c = rw (c.in-2.is, c.cursor_of.ensures)
+
+pub returns-in-3 : goal.returns-in-3
+returns-in-3 c = rw (c.in-3.is, c.transfer_of.ensures)
+
+pub returns-in_default : goal.returns-in_default
+returns-in_default c =
+    let n = c.in_default.in_default-own.rest in rw (ne_eqb _ 0 n.0.0.0.1, ne_eqb _ 1 n.0.0.1, ne_eqb _ 2 n.0.1, ne_eqb _ 3 n.1)

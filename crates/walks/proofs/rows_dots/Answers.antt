@@ -1,0 +1,25 @@
+-- `rows_dots` goes one of two ways, which walk alike (`row_by_bits`).
+use mathlib.Core.Path.{sym, ◌∙◌}
+use Prim.Native.Nat.{◌-◌}
+use Rattle.dots.specs.declared.Cursor.{Cursor}
+use Rattle.walks.specs.Walk.{rows_walk}
+use Rattle.walks.proofs.BitLaws.{row_by_bits}
+use borrow.Author.Rules.{rules}
+use Rattle.walks.proofs.rows_dots.Goals as goal
+
+pub rows_bits-requires : goal.rows_bits-requires
+rows_bits-requires c = (
+  sym c.factor_of.ensures ∙ c.if-factor_of-eq1.true,
+  c.if-at-lt4194304.true,
+)
+
+pub returns-then-factor_of-eq1 : goal.returns-then-factor_of-eq1
+returns-then-factor_of-eq1 c =
+    let a = c.args in
+    row_by_bits (λ (v : Cursor). rows_walk a.b (a.end - a.y) a.y v a.mem.now) c.rows_bits.result
+    c.address_of-at.ensures
+    c.if-at-lt4194304.true
+    c.cursor_at.ensures c.rows_bits.ensures
+
+pub returns : goal.returns
+returns c = c.plain_rows.ensures

@@ -1,0 +1,49 @@
+-- `rows_bits`: what is left to do from here is what was to do from the start, a row at a time (`rows_on`).
+use mathlib.Core.Path.{◌≡◌, refl, sym, ◌∙◌}
+use mathlib.Core.List.{List}
+use Prim.Native.Nat.{ℕ, ◌-◌, ◌<◌}
+use native.Mathlib.Omega.{arith}
+use lib.ListN.{length}
+use Rattle.dots.specs.Dot.{cursor_at}
+use Rattle.walks.specs.declared.Brush.{Brush}
+use Rattle.walks.specs.Walk.{rows_walk}
+use Rattle.walks.proofs.BitLaws.{stride_small}
+use Rattle.walks.proofs.RowLaws.{next_bits}
+use Rattle.walks.proofs.WalkLaws.{rows_on, rows_end}
+use borrow.Author.Rules.{rules}
+use Rattle.walks.proofs.side.rows_bits.Goals as goal
+
+pub loop-i-init : goal.loop-i-init
+loop-i-init c = record { small = search rules; long = refl; same = refl }
+
+pub row_bits-s-requires : goal.row_bits-s-requires
+row_bits-s-requires c =
+    (c.requires.0, c.loop-i.invariant.small)
+
+pub overflow_add-s : goal.overflow_add-s
+overflow_add-s c =
+    omega (
+      arith,
+      c.loop-i.invariant.small,
+      stride_small c.stride-down.ensures,
+    )
+
+pub loop-i-smaller : goal.loop-i-smaller
+loop-i-smaller c = omega arith
+
+pub loop-i-preserved : goal.loop-i-preserved
+loop-i-preserved c = let l = c.loop-i in
+    record {
+      small = omega arith;
+      long = c.row_bits-s.auto.mem ∙ l.invariant.long;
+      same = l.invariant.same ∙ rows_on _ _ _ _ _ c.loop-i-test.true
+          c.columns_of-columns.ensures c.row_bits-s.ensures
+          (next_bits c.args.b _ l.invariant.small refl
+          c.stride-down.ensures);
+    }
+
+pub shape_of-mem : goal.shape_of-mem
+shape_of-mem c = c.loop-i.invariant.long
+
+pub returns : goal.returns
+returns c = rows_end _ _ _ _ _ c.loop-i-test.false ∙ sym c.loop-i.invariant.same

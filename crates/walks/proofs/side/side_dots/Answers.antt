@@ -1,0 +1,54 @@
+-- `side_dots`: what is left to do from here is what was to do from the start, a side at a time (`side_on`).
+use mathlib.Core.Path.{◌≡◌, refl, sym, ◌∙◌}
+use mathlib.Core.List.{List}
+use Prim.Native.Nat.{ℕ, ◌-◌, ◌<◌}
+use native.Mathlib.Omega.{arith}
+use lib.ListN.{length}
+use Rattle.dots.specs.Dot.{cursor_at}
+use Rattle.walks.specs.declared.Brush.{Brush}
+use Rattle.walks.specs.Walk.{figure_walk}
+use Rattle.walks.proofs.LoopLaws.{straight_lt}
+use Rattle.walks.proofs.BitLaws.{stride_small, side_past, side_on, sides_end}
+use borrow.Author.Rules.{rules}
+use Rattle.walks.proofs.side.side_dots.Goals as goal
+
+pub loop-i-init : goal.loop-i-init
+loop-i-init c = record { small = search rules; long = refl; same = refl }
+
+pub side_end-requires : goal.side_end-requires
+side_end-requires c = (c.requires.0, omega arith)
+
+pub straight_any-a-requires : goal.straight_any-a-requires
+straight_any-a-requires c =
+    (c.loop-i.invariant.small, stride_small c.stride-step.ensures)
+
+pub loop-i-smaller : goal.loop-i-smaller
+loop-i-smaller c =
+    omega (
+      arith,
+      side_past _ _ _ _ c.loop-i-test.true
+          c.side_end.ensures
+          c.least_of-e.ensures,
+    )
+
+pub loop-i-preserved : goal.loop-i-preserved
+loop-i-preserved c = let l = c.loop-i in
+    record {
+      small = straight_lt _ _ _ _ _ 0 _ _ _ _ _ _ l.invariant.small c.straight_any-a.ensures;
+      long = c.straight_any-a.auto.mem ∙ l.invariant.long;
+      same = l.invariant.same ∙ side_on _ _ _ _ _ _ _ _ _
+          c.requires.0 l.invariant.small
+          c.loop-i-test.true
+          c.side_end.ensures
+          c.least_of-e.ensures
+          c.direction_at.ensures c.stride-step.ensures
+          c.straight_any-a.ensures;
+    }
+
+pub shape_of-mem : goal.shape_of-mem
+shape_of-mem c = c.loop-i.invariant.long
+
+pub returns : goal.returns
+returns c =
+    sides_end _ _ _ _ c.loop-i.a _ c.cursor_at-c.ensures c.loop-i-test.false
+    ∙ sym c.loop-i.invariant.same

@@ -1,0 +1,20 @@
+-- `straight_by` goes by the operation, whose number is known then.
+use Rattle.dots.specs.Operation.{operation_of}
+use borrow.Author.Rules.{rules}
+use Rattle.walks.proofs.side.straight_by.Goals as goal
+
+pub returns-in-Replace : goal.returns-in-Replace
+unfolding operation_of
+returns-in-Replace c = rw c.in-Replace.is c.straight_loop.ensures
+
+pub returns-in-Complement : goal.returns-in-Complement
+unfolding operation_of
+returns-in-Complement c = rw c.in-Complement.is c.straight_loop-in-Complement.ensures
+
+pub returns-in-Reset : goal.returns-in-Reset
+unfolding operation_of
+returns-in-Reset c = rw c.in-Reset.is c.straight_loop-in-Reset.ensures
+
+pub returns-in-Set : goal.returns-in-Set
+unfolding operation_of
+returns-in-Set c = rw c.in-Set.is c.straight_loop-in-Set.ensures
