@@ -1,0 +1,12 @@
+-- `check_blocks` gives `blocks_checked`: the blocks left decide the answer as all the blocks do, at each turn.
+use Rattle.std.proofs.Common.{◌≡◌, ◌-◌, ◌≤◌, sym, ◌∙◌, rules}
+use Rattle.blocks.specs.Answer.{first_from}
+use Rattle.blocks.specs.Block.{block_answer, blocks_checked}
+use Rattle.blocks.proofs.BlockLaws.{blocks_start, blocks_stop, blocks_go_on, blocks_end}
+use Rattle.blocks.proofs.check_blocks.Given as goal
+
+abbrev pub invariant-loop-b : goal.invariant-loop-b
+invariant-loop-b l = (l.b ≤ l.n) × (blocks_checked l.s l.n ≡ first_from (block_answer l.s l.n) (l.n - l.b) l.b)
+
+abbrev pub decreases-loop-b : goal.decreases-loop-b
+decreases-loop-b l = l.n - l.b

@@ -1,0 +1,17 @@
+-- `begin_arc` is the definition, by whether the arc has a dot to draw.
+use Rattle.arcs.proofs.RunningLaws.{arc_begins, arc_passes}
+use Rattle.std.proofs.Common.{rules}
+use Rattle.passes.proofs.begin_arc.Goals as goal
+
+pub returns-then-arc_cycles_of-gt0 : goal.returns-then-arc_cycles_of-gt0
+returns-then-arc_cycles_of-gt0 c =
+    arc_begins _ c.arc_cycles_of.ensures
+    c.copy-a.ensures
+    c.if-arc_cycles_of-gt0.true
+
+pub returns : goal.returns
+returns c =
+    arc_passes _ c.arc_cycles_of.ensures
+    c.copy-a.ensures
+    c.if-arc_cycles_of-gt0.false
+    c.pass-m.ensures

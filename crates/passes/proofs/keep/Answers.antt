@@ -1,0 +1,8 @@
+-- `keep` is the definition.
+use Rattle.std.proofs.Common.{refl, rules}
+use Rattle.passes.specs.Place.{kept}
+use Rattle.passes.proofs.keep.Goals as goal
+
+pub returns : goal.returns
+unfolding kept
+returns c = refl

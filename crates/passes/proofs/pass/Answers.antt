@@ -1,0 +1,13 @@
+-- `pass` moves as the cursor does, either way.
+use Rattle.passes.proofs.PlaceLaws.{passes_by}
+use Rattle.std.proofs.Common.{rules}
+use Rattle.passes.proofs.pass.Goals as goal
+
+pub returns : goal.returns
+returns c =
+    passes_by _ _ _ _ c.axis_of.ensures
+    c.stride-axis.ensures c.diagonal_of.ensures
+    c.stride-diagonal.ensures _ _ _
+    c.address_of-at.ensures
+    c.if-at-ge4194304.false c.place_of.ensures
+    c.pass_loop.ensures c.standing.ensures

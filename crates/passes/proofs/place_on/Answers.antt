@@ -1,0 +1,16 @@
+-- `place_on` is the definition, by D's sign.
+use Rattle.passes.proofs.PlaceLaws.{turned, went_straight}
+use Rattle.std.proofs.Common.{rules}
+use Rattle.passes.proofs.place_on.Goals as goal
+
+pub returns-then-d-ge-SIGN : goal.returns-then-d-ge-SIGN
+returns-then-d-ge-SIGN c =
+    turned _ _ c.wrapping_add_u64-d.ensures
+    c.wrapping_add_u64-gain.ensures
+    c.wrapping_add_u64.ensures c.keep-at.ensures c.wrapping_add_u64-turn.ensures
+    c.if-d-ge-SIGN.true
+
+pub returns : goal.returns
+returns c =
+    went_straight _ _ c.wrapping_add_u64-d.ensures c.wrapping_add_u64-gain.ensures
+    c.wrapping_add_u64-2.ensures c.keep-at-2.ensures c.if-d-ge-SIGN.false
