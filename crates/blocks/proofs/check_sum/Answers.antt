@@ -12,7 +12,7 @@ loop-i-preserved c = (
   search rules,
   search rules,
   c.loop-i.invariant.2
-      ∙ sum_goes_on _ _ _ _ c.loop-i-test.true c.word_at-word.ensures c.wrapping_add_u16-sum.ensures,
+      ∙ sum_goes_on _ _ _ _ c.loop-i-test.true c.word_at-word.ensures c.wrapping_add_u16-sum.ensures.value,
 )
 
 pub returns : goal.returns

@@ -12,16 +12,16 @@ pub loop-dir-init : goal.loop-dir-init
 loop-dir-init c = (search rules, refl, arcs_start _ _ _ _ _)
 
 pub arc_entries-requires : goal.arc_entries-requires
-arc_entries-requires c = (
-  search rules,
-  dc_is _ _ c.largest_of-largest.ensures c.coincides-coincide.ensures
-      c.dc_of-dc.ensures,
-)
+arc_entries-requires c =
+    record {
+      dir_bound = search rules;
+      dc_value = dc_is _ _ c.largest_of-largest.ensures c.coincides-coincide.ensures c.dc_of-dc.ensures;
+    }
 
 pub loop-dir-preserved : goal.loop-dir-preserved
 loop-dir-preserved c = let l = c.loop-dir in (
   search rules,
-  c.put_from.auto.0 ∙ l.invariant.1,
+  c.put_from.auto.out ∙ l.invariant.1,
   l.invariant.2 ∙ arcs_go_on _ _ _ _ _ _ c.loop-dir-test.true
       (c.put_from.ensures ∙ ap (placed _ _) c.arc_entries.ensures),
 )

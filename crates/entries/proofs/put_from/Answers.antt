@@ -13,7 +13,7 @@ loop-i-init c = (search rules, refl, put_starts _ _ _)
 pub loop-i-preserved : goal.loop-i-preserved
 loop-i-preserved c = let l = c.loop-i in (
   search rules,
-  c.store.auto.0 ∙ l.invariant.1,
+  c.store.auto.out ∙ l.invariant.1,
   l.invariant.2 ∙ put_goes_on _ _ _ _ c.loop-i-test.true c.store.ensures,
 )
 

@@ -5,12 +5,12 @@ use Rattle.passes.proofs.place_on.Goals as goal
 
 pub returns-then-d-ge-SIGN : goal.returns-then-d-ge-SIGN
 returns-then-d-ge-SIGN c =
-    turned _ _ c.wrapping_add_u64-d.ensures
-    c.wrapping_add_u64-gain.ensures
-    c.wrapping_add_u64.ensures c.keep-at.ensures c.wrapping_add_u64-turn.ensures
+    turned _ _ c.wrapping_add_u64-d.ensures.value
+    c.wrapping_add_u64-gain.ensures.value
+    c.wrapping_add_u64.ensures.value c.keep-at.ensures c.wrapping_add_u64-turn.ensures.value
     c.if-d-ge-SIGN.true
 
 pub returns : goal.returns
 returns c =
-    went_straight _ _ c.wrapping_add_u64-d.ensures c.wrapping_add_u64-gain.ensures
-    c.wrapping_add_u64-2.ensures c.keep-at-2.ensures c.if-d-ge-SIGN.false
+    went_straight _ _ c.wrapping_add_u64-d.ensures.value c.wrapping_add_u64-gain.ensures.value
+    c.wrapping_add_u64-2.ensures.value c.keep-at-2.ensures c.if-d-ge-SIGN.false

@@ -1,0 +1,6 @@
+-- `begin` notes the command, with no parameter taken.
+use borrow.Author.Rules.{rules}
+use Rattle.processor.proofs.command.begin.Goals as goal
+
+pub returns : goal.returns
+returns c = rw c.first_of-first.ensures

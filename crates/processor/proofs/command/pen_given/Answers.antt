@@ -1,0 +1,6 @@
+-- `pen_given` is the definition, of what its calls ensure.
+use borrow.Author.Rules.{rules}
+use Rattle.processor.proofs.command.pen_given.Goals as goal
+
+pub returns : goal.returns
+returns c = rw (c.turn.ensures, c.pen_bytes.ensures)

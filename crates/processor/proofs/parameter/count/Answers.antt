@@ -1,0 +1,6 @@
+-- `count` counts the parameter and keeps the rest.
+use borrow.Author.Rules.{rules}
+use Rattle.processor.proofs.parameter.count.Goals as goal
+
+pub returns : goal.returns
+returns c = rw c.next_of-next.ensures

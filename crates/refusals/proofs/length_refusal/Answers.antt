@@ -1,0 +1,6 @@
+-- `length_refusal` gives `length_refusal`: its test is the definition's.
+use borrow.Author.Rules.{rules}
+use Rattle.refusals.proofs.length_refusal.Goals as goal
+
+pub returns : goal.returns
+returns c = rw (← c.sheet_fits.ensures, c.refusal_unless.ensures)

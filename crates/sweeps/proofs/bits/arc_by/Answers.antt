@@ -1,0 +1,25 @@
+-- `arc_by` goes by the operation, whose number is known then; the pattern of all ones is one pattern of them.
+use Rattle.dots.specs.Operation.{operation_of}
+use borrow.Author.Rules.{rules}
+use Rattle.sweeps.proofs.bits.arc_by.Goals as goal
+
+pub returns-then-high-eq255 : goal.returns-then-high-eq255
+returns-then-high-eq255 c =
+    rw (c.if-low-eq255.true, c.if-high-eq255.true)
+    c.arc_solid.ensures
+
+pub returns-in-Replace : goal.returns-in-Replace
+unfolding operation_of
+returns-in-Replace c = rw c.in-Replace.is c.arc_loop.ensures
+
+pub returns-in-Complement : goal.returns-in-Complement
+unfolding operation_of
+returns-in-Complement c = rw c.in-Complement.is c.arc_loop-in-Complement.ensures
+
+pub returns-in-Reset : goal.returns-in-Reset
+unfolding operation_of
+returns-in-Reset c = rw c.in-Reset.is c.arc_loop-in-Reset.ensures
+
+pub returns-in-Set : goal.returns-in-Set
+unfolding operation_of
+returns-in-Set c = rw c.in-Set.is c.arc_loop-in-Set.ensures

@@ -1,0 +1,22 @@
+-- `plain_arc`: what is left to do from here is what was to do from the start (`sweep_on`).
+use mathlib.Core.Path.{◌≡◌, refl, sym, ◌∙◌}
+use mathlib.Core.List.{List}
+use Prim.Native.Nat.{ℕ, ◌-◌}
+use native.Mathlib.Omega.{arith}
+use lib.ListN.{length}
+use Rattle.arcs.specs.declared.Moving.{Moving}
+use Rattle.walks.specs.declared.Brush.{Brush}
+use Rattle.sweeps.specs.Sweep.{arc_walk}
+use Rattle.sweeps.proofs.SweepLaws.{sweep_on, sweep_end}
+use borrow.Author.Rules.{rules}
+use Rattle.sweeps.proofs.plain_arc.Given as goal
+
+abbrev pub invariant-loop-k : goal.invariant-loop-k
+invariant-loop-k l =
+    record {
+      long : length l.mem ≡ length l.initial.mem;
+      same : arc_walk l.b (l.end - l.i) l.i l.initial.m l.initial.mem ≡ arc_walk l.b (l.end - l.k) l.k l.m l.mem;
+    }
+
+abbrev pub decreases-loop-k : goal.decreases-loop-k
+decreases-loop-k l = l.end - l.k
