@@ -27,8 +27,8 @@ held_typed r vs g =
     let f = g.1.1 in
     record {
       mask = f.0.1.1.1.0.1;
-      ram = sym (length-map r.ram (λ x. x)) ∙ f.1.1.1.1.0.1.0.1;
-      entries = sym (length-map r.buffer.entries (λ x. x)) ∙ f.1.1.1.1.1.1.1.1.0.1.1.0.1.0.1;
+      ram = f.1.1.1.1.0.1.0.1;
+      entries = f.1.1.1.1.1.1.1.1.0.1.1.0.1.0.1;
       start = start_fits r.work _ f.1.1.1.1.1.1.1.1.1.1.0;
     }
 

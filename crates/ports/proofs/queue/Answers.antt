@@ -1,0 +1,6 @@
+-- `queue` is the definition, of what its call ensures.
+use borrow.Author.Rules.{rules}
+use Rattle.ports.proofs.queue.Goals as goal
+
+pub returns : goal.returns
+returns c = rw c.push-next.ensures

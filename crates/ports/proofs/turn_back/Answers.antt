@@ -1,0 +1,6 @@
+-- `turn_back` is the definition, register by register.
+use borrow.Author.Rules.{rules}
+use Rattle.ports.proofs.turn_back.Goals as goal
+
+pub returns : goal.returns
+returns c = rw c.no_entries.ensures

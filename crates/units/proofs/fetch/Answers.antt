@@ -1,0 +1,8 @@
+-- `fetch` is the definition, of what its calls ensure (`fetched_by`).
+use Rattle.units.proofs.UnitLaws.{fetched_by}
+use borrow.Author.Rules.{rules}
+use Rattle.units.proofs.fetch.Goals as goal
+
+pub returns : goal.returns
+returns c = fetched_by _ _ c.pop-rest.ensures c.oldest_of.ensures
+    c.entry_taken.ensures

@@ -1,0 +1,11 @@
+-- `length_right` is the definition, wiring by wiring.
+use Rattle.units.specs.Run.{length_b}
+use borrow.Author.Rules.{rules}
+use Rattle.units.proofs.length_right.Goals as goal
+
+pub returns-in-Folded : goal.returns-in-Folded
+returns-in-Folded c = rw c.in-Folded.is c.folded_right.ensures
+
+pub returns-in-Open : goal.returns-in-Open
+unfolding length_b
+returns-in-Open c = rw c.in-Open.is

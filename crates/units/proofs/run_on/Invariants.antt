@@ -1,0 +1,26 @@
+-- `run_on`: after n units, what is left to do from here is what was to do from the start; many units at once are as many (`figure_ahead`,
+-- `arc_ahead`, `character_ahead`).
+use Rattle.units.proofs.AheadLaws.{figure_ahead, arc_ahead, character_ahead, goes_ahead}
+use Rattle.units.proofs.RunLaws.{run_starts, run_ends, run_stops, run_goes_on}
+use Rattle.units.proofs.UnitLaws.{unit_by_law}
+use Rattle.units.specs.Run.{run_from}
+use Rattle.registers.specs.State.{state}
+use Rattle.registers.specs.declared.Registers.{Registers}
+use borrow.Author.Rules.{rules}
+use lib.ListN.{length}
+use mathlib.Core.Path.{◌≡◌, refl, sym, ◌∙◌}
+use mathlib.Core.List.{List}
+use native.Mathlib.Omega.{arith}
+use Prim.Native.Nat.{ℕ, ◌-◌, ◌≤◌}
+use Rattle.units.proofs.run_on.Given as goal
+
+abbrev pub invariant-loop-n : goal.invariant-loop-n
+invariant-loop-n l =
+    record {
+      within : l.n ≤ l.budget;
+      long : length l.mem ≡ length l.initial.mem;
+      same : run_from l.budget 0 (state l.initial.s l.initial.mem) ≡ run_from (l.budget - l.n) l.n (state l.s l.mem);
+    }
+
+abbrev pub decreases-loop-n : goal.decreases-loop-n
+decreases-loop-n l = l.budget - l.n
