@@ -1,0 +1,30 @@
+-- `counted` counts figures, entries and dots: what is counted and what the slots left have are the whole, at each turn.
+use Prim.Native.Nat.{ℕ, ◌+◌, ◌-◌, ◌*◌, ◌≤◌}
+use native.Mathlib.Omega.{arith}
+use mathlib.Core.List.{List}
+use mathlib.Core.Path.{◌≡◌, ap, ◌∙◌}
+use lib.ListN.{length}
+use borrow.Author.Rules.{rules}
+use Rattle.records.specs.declared.Room.{Room}
+use Rattle.sheets.specs.Slots.{sized, figures, figures_from}
+use Rattle.sheets.proofs.SlotLaws.{slot_small, slot_one, sized_append, figures_start, count_starts, count_goes_on, count_ends}
+use Rattle.costs.specs.declared.Share.{Share}
+use Rattle.costs.specs.Dots.{figures_dots}
+use Rattle.costs.proofs.DotLaws.{dots_append, figures_append}
+use Rattle.costs.proofs.CostLaws.{cost_is}
+use Rattle.costs.proofs.counted.Given as goal
+
+abbrev pub invariant-loop-k : goal.invariant-loop-k
+invariant-loop-k l =
+    record {
+      within : l.k ≤ 50 * l.n;
+      few : l.figures ≤ l.k;
+      small : l.entries ≤ 2 + 161 * l.k;
+      less : l.dots ≤ 4294967295 * l.k;
+      count : length (figures l.s l.m l.n) ≡ l.figures + length (figures_from l.s l.m (50 * l.n - l.k) l.k);
+      need : 2 + sized (figures l.s l.m l.n) ≡ l.entries + sized (figures_from l.s l.m (50 * l.n - l.k) l.k);
+      dots : figures_dots (figures l.s l.m l.n) ≡ l.dots + figures_dots (figures_from l.s l.m (50 * l.n - l.k) l.k);
+    }
+
+abbrev pub decreases-loop-k : goal.decreases-loop-k
+decreases-loop-k l = 50 * l.n - l.k

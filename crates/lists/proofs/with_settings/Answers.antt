@@ -1,0 +1,6 @@
+-- `with_settings` puts the settings into the set, with the empty buffer.
+use borrow.Author.Rules.{rules}
+use Rattle.lists.proofs.with_settings.Goals as goal
+
+pub returns : goal.returns
+returns c = rw c.no_entries-none.ensures

@@ -1,0 +1,6 @@
+-- `at_once` makes the five tests of `at_once_b`.
+use borrow.Author.Rules.{rules}
+use Rattle.sends.proofs.at_once.Goals as goal
+
+pub returns : goal.returns
+returns c = rw (c.idle.ensures, c.is_write.ensures)

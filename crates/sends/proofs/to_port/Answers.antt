@@ -1,0 +1,6 @@
+-- `to_port` gives what the port leaves.
+use borrow.Author.Rules.{rules}
+use Rattle.sends.proofs.to_port.Goals as goal
+
+pub returns : goal.returns
+returns c = rw c.at_port-a.ensures
