@@ -1,0 +1,6 @@
+-- `queue` is the definition, of what its calls ensure.
+use borrow.Author.Rules.{rules}
+use Rattle.bus.proofs.queue.Goals as goal
+
+pub returns : goal.returns
+returns c = rw (c.buffer_plain.ensures, c.push.ensures, c.buffer_of.ensures)

@@ -1,0 +1,11 @@
+-- `turned_plain` is the definition, of what its calls ensure.
+use borrow.Author.Rules.{rules}
+use Rattle.bus.proofs.turned_plain.Goals as goal
+
+pub returns : goal.returns
+returns c = rw (
+  c.queue-buffer.ensures,
+  c.buffer_plain.ensures,
+  c.no_entries.ensures,
+  c.work_plain-work.ensures,
+)

@@ -1,0 +1,51 @@
+-- `draw_sheet` is `sheet_drawn`: one law of DrawLaws for each way out.
+use mathlib.Core.Path.{sym, ◌∙◌}
+use borrow.Author.Tests.{not-true, not-false}
+use Rattle.drawing.proofs.DrawLaws.{way_unsound, way_mislong, way_larger, way_refused, way_sent, part_fits, part_long}
+use borrow.Author.Rules.{rules}
+use Rattle.drawing.proofs.draw_sheet.Goals as goal
+
+pub returns-then-not-sound : goal.returns-then-not-sound
+returns-then-not-sound c =
+    way_unsound _ _ _ _ _ _ _ (sym c.sound.ensures ∙ c.if-not-sound.true) c.refuse.ensures
+
+pub returns-then-not-length_right : goal.returns-then-not-length_right
+returns-then-not-length_right c =
+    way_mislong _ _ _ _ _ _ _ (sym c.sound.ensures
+    ∙ c.if-not-sound.false)
+    (sym c.length_right.ensures ∙ c.if-not-length_right.true) c.refuse-then-not-length_right.ensures
+
+pub returns-then-larger : goal.returns-then-larger
+returns-then-larger c =
+    way_larger _ _ _ _ _ _ _ (sym c.sound.ensures
+    ∙ c.if-not-sound.false)
+    (sym c.length_right.ensures ∙ c.if-not-length_right.false)
+    (sym c.larger.ensures ∙ c.if-larger.true) c.refuse-then-larger.ensures
+
+pub returns-then-a-ne0 : goal.returns-then-a-ne0
+returns-then-a-ne0 c =
+    way_refused _ _ _ _ _ _ _ (sym c.sound.ensures
+    ∙ c.if-not-sound.false)
+    (sym c.length_right.ensures ∙ c.if-not-length_right.false)
+    (sym c.larger.ensures ∙ c.if-larger.false) c.translate-a.ensures
+    c.if-a-ne0.true c.refuse-then-a-ne0.ensures
+
+pub slice_bounds-send_all-end : goal.slice_bounds-send_all-end
+slice_bounds-send_all-end c =
+    part_fits _ _ _ _ _ c.translate-a.ensures
+    c.if-a-ne0.false
+
+pub slice_bounds-send_all-end-2 : goal.slice_bounds-send_all-end-2
+slice_bounds-send_all-end-2 c =
+    part_long _ _ _ _ _ c.translate-a.ensures
+    c.if-a-ne0.false
+
+pub returns : goal.returns
+returns c =
+    way_sent _ _ _ _ _ _ _ (sym c.sound.ensures
+    ∙ c.if-not-sound.false)
+    (sym c.length_right.ensures ∙ c.if-not-length_right.false)
+    (sym c.larger.ensures ∙ c.if-larger.false) c.translate-a.ensures
+    c.if-a-ne0.false
+    c.finish-w.ensures
+    c.send_all-q.ensures

@@ -1,0 +1,12 @@
+-- `formed` is the definition, part by part.
+use Rattle.plain.specs.Form.{plain_form_b}
+use borrow.Author.Rules.{rules}
+use Rattle.forms.proofs.formed.Goals as goal
+
+pub returns : goal.returns
+unfolding plain_form_b
+returns c = rw (
+  c.work_formed-work.ensures,
+  c.command_formed-command.ensures,
+  c.bits_formed-bits.ensures,
+)

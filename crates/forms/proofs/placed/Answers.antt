@@ -1,0 +1,10 @@
+-- `placed` is the definition, of what its calls ensure.
+use borrow.Author.Rules.{rules}
+use Rattle.forms.proofs.placed.Goals as goal
+
+pub returns : goal.returns
+returns c =
+    rw (
+      c.work_fits.ensures,
+      c.place_fits.ensures,
+    )
