@@ -1,3 +1,2 @@
 pub mod AskedLaws
 pub mod ExportLaws
-pub mod Standing

@@ -114,24 +114,24 @@ fn sent_plain(d: Listed) -> PlainSent
 }
 
 // The fresh set.
-#[unsafe(no_mangle)]
-pub extern "C" fn kranichseil_fresh() -> PlainRegisters
+
+pub fn kranichseil_fresh() -> PlainRegisters
     ensures { result ≡ to_plain fresh_set }
 {
     plain::convert::to_plain(registers::fresh())
 }
 
 // A byte to the command port.
-#[unsafe(no_mangle)]
-pub extern "C" fn kranichseil_command(r: PlainRegisters, byte: u8) -> PlainAnswer
+
+pub fn kranichseil_command(r: PlainRegisters, byte: u8) -> PlainAnswer
     ensures { result ≡ asked r (command_written (from_plain r) byte) }
 {
     bus::command(r, byte)
 }
 
 // A byte to the parameter port.
-#[unsafe(no_mangle)]
-pub extern "C" fn kranichseil_parameter(r: PlainRegisters, byte: u8) -> PlainAnswer
+
+pub fn kranichseil_parameter(r: PlainRegisters, byte: u8) -> PlainAnswer
     ensures { result ≡ asked r (parameter_written (from_plain r) byte) }
 {
     if !forms::formed(r) {
@@ -141,8 +141,8 @@ pub extern "C" fn kranichseil_parameter(r: PlainRegisters, byte: u8) -> PlainAns
 }
 
 // A byte is read.
-#[unsafe(no_mangle)]
-pub extern "C" fn kranichseil_read(r: PlainRegisters) -> PlainAnswer
+
+pub fn kranichseil_read(r: PlainRegisters) -> PlainAnswer
     ensures { result ≡ asked r (byte_read (from_plain r)) }
 {
     if !forms::formed(r) {
@@ -152,8 +152,8 @@ pub extern "C" fn kranichseil_read(r: PlainRegisters) -> PlainAnswer
 }
 
 // The status is read.
-#[unsafe(no_mangle)]
-pub extern "C" fn kranichseil_status(r: PlainRegisters) -> PlainAnswer
+
+pub fn kranichseil_status(r: PlainRegisters) -> PlainAnswer
     ensures { result ≡ asked r (status_read (from_plain r)) }
 {
     if !forms::formed(r) {
@@ -163,8 +163,8 @@ pub extern "C" fn kranichseil_status(r: PlainRegisters) -> PlainAnswer
 }
 
 // A light-pen address is posted.
-#[unsafe(no_mangle)]
-pub extern "C" fn kranichseil_pen(r: PlainRegisters, address: u32) -> PlainAnswer
+
+pub fn kranichseil_pen(r: PlainRegisters, address: u32) -> PlainAnswer
     ensures { result ≡ asked r (pen_posted (from_plain r) address) }
 {
     if !forms::formed(r) {
@@ -191,8 +191,8 @@ fn reply_of(d: PlainAnswer) -> PlainReply
 }
 
 // A byte to a port of the registers where they stand.
-#[unsafe(no_mangle)]
-pub extern "C" fn kranichseil_board_write(r: &mut PlainRegisters, entry: u16) -> PlainReply
+
+pub fn kranichseil_board_write(r: &mut PlainRegisters, entry: u16) -> PlainReply
     ensures { replied result r.new ≡ asked r.old (written (from_plain r.old) entry) }
 {
     let done = bus::write_plain(*r, entry);
@@ -201,8 +201,8 @@ pub extern "C" fn kranichseil_board_write(r: &mut PlainRegisters, entry: u16) ->
 }
 
 // A byte from a port of the registers where they stand.
-#[unsafe(no_mangle)]
-pub extern "C" fn kranichseil_board_read(r: &mut PlainRegisters, port: u8) -> PlainReply
+
+pub fn kranichseil_board_read(r: &mut PlainRegisters, port: u8) -> PlainReply
     ensures { replied result r.new ≡ asked r.old (read_from port (from_plain r.old)) }
 {
     let done = bus::read_plain(*r, port);
@@ -211,8 +211,8 @@ pub extern "C" fn kranichseil_board_read(r: &mut PlainRegisters, port: u8) -> Pl
 }
 
 // The run, by value.
-#[unsafe(no_mangle)]
-pub extern "C" fn kranichseil_run(r: PlainRegisters, mem: &mut [u16], budget: u32) -> PlainRan
+
+pub fn kranichseil_run(r: PlainRegisters, mem: &mut [u16], budget: u32) -> PlainRan
     ensures { plained result mem.new ≡ ran_on r mem.old (run_done budget (state (from_plain r) mem.old)) }
 {
     if !forms::formed(r) {
@@ -245,8 +245,8 @@ fn report_of(d: PlainRan) -> PlainReport
 }
 
 // The run on the registers where they stand.
-#[unsafe(no_mangle)]
-pub extern "C" fn kranichseil_board_run(
+
+pub fn kranichseil_board_run(
     r: &mut PlainRegisters,
     mem: &mut [u16],
     budget: u32,
@@ -294,8 +294,8 @@ fn tally_of(d: PlainSent) -> PlainTally
 }
 
 // A list of entries sent to the registers where they stand.
-#[unsafe(no_mangle)]
-pub extern "C" fn kranichseil_board_send(
+
+pub fn kranichseil_board_send(
     r: &mut PlainRegisters,
     entries: &[u16],
     mem: &mut [u16],
@@ -310,8 +310,8 @@ pub extern "C" fn kranichseil_board_send(
 }
 
 // The sheet becomes entries at the output's start, for a plane of P words by H lines and a glyph table.
-#[unsafe(no_mangle)]
-pub extern "C" fn kranichseil_translate(
+
+pub fn kranichseil_translate(
     sheet: &[u8],
     p: u32,
     h: u32,
@@ -329,8 +329,8 @@ pub extern "C" fn kranichseil_translate(
 }
 
 // What the sheet costs, for a plane of P words by H lines and a glyph table; nothing is sent.
-#[unsafe(no_mangle)]
-pub extern "C" fn kranichseil_cost(sheet: &[u8], p: u32, h: u32, glyphs: &[u8]) -> PlainCost
+
+pub fn kranichseil_cost(sheet: &[u8], p: u32, h: u32, glyphs: &[u8]) -> PlainCost
     ensures { costed result ≡ cost_def sheet.now p h glyphs.now }
 {
     let c = costs::cost_of(sheet, p, h, glyphs);

@@ -1,0 +1,6 @@
+-- `sent_plain` is the definition.
+use borrow.Author.Rules.{rules}
+use Rattle.mirror.proofs.sent_plain.Goals as goal
+
+pub returns : goal.returns
+returns c = rw c.to_plain-regs.ensures
