@@ -80,7 +80,16 @@ def edit_of(path):
 
 
 def all_edits():
-    return [edit_of(path) for crate in crates() for path in files(crate, 'must-fail', '.edit')]
+    """The edits of all crates, or else what is wrong with each that does not stand."""
+    found, wrong = [], []
+    for path in [path for crate in crates() for path in files(crate, 'must-fail', '.edit')]:
+        try:
+            found.append(edit_of(path))
+        except Unresolved as error:
+            wrong.append(str(error))
+    if wrong:
+        raise Unresolved('\nreading: '.join(wrong))
+    return found
 
 
 @functools.lru_cache(None)

@@ -37,12 +37,12 @@ def rust_type(crate, parts, where):
 
 def imported(module, name, where):
     """What a name of a module is: a declaration, or the kit's name as text."""
-    own = re.match(r'Rattle·(\w+)(?:·\w+)?\.(specs|proofs)\.(\S+)$', module)
+    own = re.match(r'Rattle\.(\w+)\.(specs|proofs)\.(\S+)$', module)
     if not own or not os.path.isdir(os.path.join(TOP, 'crates', own[1])):
         return f'{module}.{name}'
     crate, folder, rest = own.groups()
     if rest.startswith('declared.'):
-        parts = [p for p in rest.split('.')[1:] if p != 'the-variants']
+        parts = [p for p in rest.split('.')[1:] if p != 'TheVariants']
         one = rust_type(crate, parts, where)
         if name != one.name and name not in one.parts:
             raise Unresolved(f'{where}: {one.place} has no {name}')
@@ -75,14 +75,14 @@ def promised(one):
     """The definitions that a function's contract gives as answers: the first of each right side, by the file's `ghost use` lines."""
     found, text = set(), '\n'.join(one.text) if one.kind == 'fn' else ''
     for right in text.partition('ensures')[2].split('≡')[1:]:
-        targets = [scope(one.path)[0].get(word) for word in re.split(r'[\s(){};,⌜⌝]+', right)]
+        targets = [scope(one.path)[0].get(word) for word in re.split(r'[\s(){};,.]+', right)]
         found |= set([t for t in targets if t and not isinstance(t, str) and '/specs/' in t.path][:1])
     return found
 
 
 def spelt(name):
-    """The words that a use of the name writes: of `_+_` the `+`."""
-    return [p for p in name.split('_') if p] if name.startswith('_') or name.endswith('_') else [name]
+    """The words that a use of the name writes: of `◌+◌` the `+`."""
+    return [p for p in name.split('◌') if p] if '◌' in name else [name]
 
 
 def resolved(path, word, where):
@@ -152,20 +152,39 @@ def antt_uses(one):
         if number:
             bound |= bound_by_patterns(one.path, words)
         for k, (row, column, word) in enumerate(group):
-            if word.startswith('.') and len(word) > 1:
-                fields.add(word[1:])
-            elif k + 1 < len(words) and words[k + 1] == '=' and words[k - 1] in '{;':
+            # `r.x.y` is a name and the fields that are taken of it; after a bracket the fields stand alone
+            word, taken = parted(one.path, word, bound)
+            fields |= taken
+            if k + 1 < len(words) and words[k + 1] == '=' and words[k - 1] in '{;':
                 fields.add(word)
-            elif word not in NOTATION and word != one.name and not NUMBER.match(word) and word.rstrip('.') not in bound:
+            elif word and word not in NOTATION and word != one.name and not NUMBER.match(word) and word not in bound:
                 where = f'{one.path}:{one.line + row}'
                 uses.append((row, column, word, resolved(one.path, word, where)))
     return uses, fields
 
 
+def parted(path, word, bound):
+    """A word without the fields that it takes, and these; a name of a module stays whole, and a binder loses its point."""
+    word = word.rstrip('.') if len(word) > 1 else word
+    head, dot, rest = word.partition('.')
+    if not dot or head not in bound and head not in scope(path)[0] and head in scope(path)[1] or word in NOTATION:
+        return word, set()
+    return head, {part for part in rest.split('.') if not NUMBER.match(part)}
+
+
+@functools.lru_cache(None)
+def brought_in(path):
+    """What the `use` items of an .rt file bring in: name, path."""
+    found = {}
+    for base, last, listed in re.findall(r'^(?:pub )?use ((?:\w+::)*)(?:(\w+)|\{([^}]*)\});', text_of(path), re.M):
+        for item in filter(None, (i.strip() for i in (last or listed).split(','))):
+            found[item.split('::')[-1]] = base + item
+    return found
+
+
 def rust_uses(one):
     """The types in a struct's or an enum's text."""
-    uses, crate = [], one.crate
-    brought = {m[1].split('::')[-1]: m[1] for m in re.finditer(r'^(?:pub )?use ([\w:]+);', text_of(one.path), re.M)}
+    uses, crate, brought = [], one.crate, brought_in(one.path)
     for row, line in enumerate(blanked('\n'.join(one.text)).split('\n')):
         spans = [m.span(1) for m in re.finditer(r'(?<!:):(?!:)\s*([^,{}]+)', line)]
         spans += [m.span() for m in re.finditer(r'(?<=\()[^()]*(?=\))', line)]

@@ -1,7 +1,7 @@
 """The theorems that READING.md names, and for each what a reader must believe: the definitions that its statement leans on.
 
-A theorem is a statement of specs/ (a definition or record that takes nothing and is a `Type`) in a row whose last column names a
-law that has the statement's name in kebab case, and whose type is that statement.
+A theorem is a statement of specs/ or proofs/ (a definition or record that takes nothing and is a `Type`) in a row whose last column names
+a law that has the statement's name in snake case, and whose type is that statement.
 """
 import dataclasses
 import os
@@ -25,13 +25,13 @@ class Theorem:
     kit: set
 
 
-def kebab(name):
-    return re.sub(r'(?<!^)(?=[A-Z])', '-', name).lower()
+def snake(name):
+    return re.sub(r'(?<!^)(?=[A-Z])', '_', name).lower()
 
 
 def is_statement(one):
     head = ' '.join(one.text[0].split())
-    return '/specs/' in one.path and re.search(rf'\b{re.escape(one.name)} : Type\b', head) is not None
+    return one.path.endswith('.antt') and re.search(rf'\b{re.escape(one.name)} : Type\b', head) is not None
 
 
 def theorem_of(statement, law, row):
@@ -47,12 +47,12 @@ def theorems(sections):
     for row in [row for section in sections for row in section.rows]:
         laws = {one.name: one for one in row.declarations if one.kind == 'law'}
         for one in row.declarations:
-            if is_statement(one) and kebab(one.name) in laws and one not in found:
-                found[one] = theorem_of(one, laws[kebab(one.name)], row)
+            if is_statement(one) and snake(one.name) in laws and one not in found:
+                found[one] = theorem_of(one, laws[snake(one.name)], row)
     path, name = FIRST
     first = by_name(path).get(name) if os.path.exists(os.path.join(TOP, path)) else None
     if first not in found:
-        raise Unresolved(f'no row of docs/READING.md names {name} of {path} with the law {kebab(name)}')
+        raise Unresolved(f'no row of docs/READING.md names {name} of {path} with the law {snake(name)}')
     return sorted(found.values(), key=lambda t: t.statement is not first)
 
 
@@ -74,7 +74,7 @@ def links_to(text, path, opened):
     """Where the names of any text of a file lead, by line: to what is opened under a theorem."""
     by_line, mark_of_comment = {}, '--' if path.endswith('.antt') else '//'
     for row, line in enumerate(text):
-        for found in re.finditer(r'[^\s(){};,⌜⌝]+', line.split(mark_of_comment)[0]):
+        for found in re.finditer(r'[^\s(){};,.]+', line.split(mark_of_comment)[0]):
             target = scope(path)[0].get(found[0])
             if not isinstance(target, str) and target in opened and target.kind != 'fn':
                 by_line.setdefault(row, []).append((found.start(), found[0], mark(target)))
