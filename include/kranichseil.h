@@ -1,5 +1,5 @@
 /* Kranichseil for C (and Rust) on x86-64: the controller's register set in plain numbers, a function for every entry, and the
-   translator of drawing sheets. Link target/staticlib/libmirror.a, which `rt staticlib mirror` writes; docs/BOARD.md says how.
+   translator of drawing sheets. Link target/staticlib/libmirror.a, which `tools/archive` writes; docs/BOARD.md says how.
 
    The numbers in the comments of the structs are offsets in bytes; c/test.c holds this header to them and to the archive.
    A bit is 0 or 1. An enum's numbers are named below. A field that has no use is 0. Anything else is no register set: refusal 1.
