@@ -3,7 +3,7 @@ import dataclasses
 import os
 import re
 
-from .sources import TOP, by_name, text_of
+from .sources import TOP, by_name, left_out, text_of
 
 READING = 'docs/READING.md'
 
@@ -55,6 +55,9 @@ def parts_of(cell, where, wrong):
             continue
         if '/' in word:
             reference = Reference(word, [])
+            if word.startswith('crates/') and word.split('/')[1] in left_out():
+                parts.append(f'{word}: PORTING-LEFT.md')
+                continue
             parts.append(reference)
             if not os.path.exists(os.path.join(TOP, word)):
                 wrong.append(f'{where}: no file {word}')

@@ -228,8 +228,16 @@ def by_name(path):
 
 def crates():
     """The crates in the order of crates.txt, lowest first."""
-    heads = re.findall(r'^(\w+):', text_of('crates.txt'), re.M)
+    heads = re.findall(r'^(\w+)(?: +\w+(?:=\S+)?)*(?= *:)', text_of('crates.txt'), re.M)
     return [c for c in heads if os.path.isdir(os.path.join(TOP, 'crates', c))]
+
+
+@functools.lru_cache(None)
+def left_out():
+    """The crates that PORTING-LEFT.md names and that are not there: of these, for now, nothing is asked."""
+    if not os.path.exists(os.path.join(TOP, 'PORTING-LEFT.md')):
+        return set()
+    return {c for c in re.findall(r'\w+', text_of('PORTING-LEFT.md')) if not os.path.isdir(os.path.join(TOP, 'crates', c))}
 
 
 def files(crate, folder, ending):
