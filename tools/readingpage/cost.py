@@ -1,4 +1,4 @@
-"""What the proofs cost: lines by crate, counted from the sources, and seconds of the check by crate, from a gate's log.
+"""What the proofs cost: lines by crate, counted from the sources, and seconds of the check by crate, from a log (tools/timed).
 
 Lines are counted without comments, blank ones and `use` lines. Code is src/ (contracts too), definitions are specs/; of proofs/ the
 statements of laws are laws, and all else is proof, so all of a function's own proof file.
@@ -51,7 +51,7 @@ def costs(seconds):
 
 
 def times_of(log):
-    """Seconds by crate: what `rt` says of each crate that it proved."""
+    """Seconds by crate: what tools/timed says of each crate that rt proved, or an older kit's rt itself."""
     found = {}
     for crate, seconds in re.findall(r'^rt: (\w+) proved \((\d+) s', log, re.M):
         found[crate] = found.get(crate, 0) + int(seconds)
@@ -59,7 +59,7 @@ def times_of(log):
 
 
 def kept():
-    """What docs/times.txt says: the day and the machine, the last line above its list, and seconds by crate."""
+    """What docs/times.txt says: the day, the machine and the kit, the last line above its list, and seconds by crate."""
     if not os.path.exists(os.path.join(TOP, TIMES)):
         return '', {}
     words = [line[1:].strip() for line in lines_of(TIMES) if line.startswith('#')]
@@ -67,17 +67,15 @@ def kept():
 
 
 def read_log(path):
-    """The times of a log, with when it was written and on what machine this runs."""
+    """The times of a log, with when it was written, on what machine this runs, and with which kit."""
     with open(path, encoding='utf-8', errors='replace') as f:
         found = times_of(f.read())
     day = time.strftime('%d %B %Y', time.gmtime(os.path.getmtime(path))).lstrip('0')
-    return f'{day}, {os.cpu_count()}-core {platform.machine()}', found
+    return f'{day}, {os.cpu_count()}-core {platform.machine()}, {text_of(".ci/kit").split()[0]}; one check after another', found
 
 
 def latest(log=None):
-    """The times of a log; without one of the last gate's, and without that those that are kept."""
-    gate = os.path.join(TOP, 'target', 'gate.log')
-    log = log or (gate if os.path.exists(gate) else None)
+    """The times of a log; without one those that are kept."""
     return read_log(log) if log else kept()
 
 

@@ -126,10 +126,9 @@ def edits_shown(every, guarding):
 
 def cost_shown(words, seconds):
     table = cost.costs(seconds)
-    beside = 'checks ran beside each other, so that each took longer than it would alone'
     said = 'There is no log to take the seconds from.'
     if seconds:
-        said = f'Seconds of each crate’s check are those of one run: {words}; {beside}.'
+        said = f'Seconds of each crate’s check are those of one run: {words}.'
     return (f'<section class="aside" id="cost"><h2>The cost of the proofs</h2><p>{prose(COST)} {prose(said)}</p>{chart.legend()}'
             f'<div class="scroll" tabindex="0" role="group" aria-label="Chart">{chart.drawn(table)}</div>'
             f'<details class="list"><summary>The numbers</summary>{chart.table_of(table)}</details></section>')
