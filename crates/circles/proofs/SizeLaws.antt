@@ -10,9 +10,9 @@ use native.Mathlib.Decide.{dec_lt}
 use lib.Dec.{leb}
 use borrow.Author.Tests.{leb-true, le-leb, eqb-true, eq-eqb}
 use Rattle.geometry.specs.Plane.{InPlane, distance, lies_out, circle_on}
-use Rattle.geometry.proofs.TestLaws.{same_test, or_cases}
+use Rattle.geometry.proofs.TestLaws.{cases, same_test, or_cases}
 use Rattle.circles.specs.Circle.{out_below, circle_out, last_below, largest, coincide, arc_dm, arc_dc, arc_dots, circle_dots, end_x, end_y}
-use Rattle.circles.proofs.OutLaws.{square_le, out_lies, out_le, out_is, out_of, within, within_r, to_largest}
+use Rattle.circles.proofs.OutLaws.{square_le, out_lies, out_le, out_is, out_of, out_positive, within, within_r, to_largest}
 use Rattle.circles.proofs.CircleLaws.{arc_circle, arc_starts}
 
 -- no square of a number of 16 bits, or of one more, passes 33 bits
@@ -51,6 +51,11 @@ module _ (r : ℕ) (pos : 0 < r) where
       le-leb (r * r) (2 * (i * i) + i) (omega (arith, eqb-true (circle_out r i) i e, (out_of r pos i (omega arith)).outer)))
       (λ e. eq-eqb (circle_out r i) i
       (out_is (record { inner = inside (dec_lt 0 i); outer = omega (arith, leb-true (r * r) (2 * (i * i) + i) e) })))
+
+  -- where they coincide there is a dot past the axis
+  coincide_pos : coincide r ≡ true → 0 < i
+  unfolding coincide
+  coincide_pos e = omega (arith, eqb-true (circle_out r i) i e, out_positive r pos i (omega arith))
 
 -- .. and it is the same at radius 0, where the only dot is the centre
 pub coincide_by : (r n : ℕ) → n ≡ largest r → leb (r * r) (2 * (n * n) + n) ≡ coincide r
@@ -102,14 +107,27 @@ circle_end cx cy r pos left top dir b =
 
 -- ---- how many dots
 -- 4 even arcs of n + 1 dots, and 4 odd ones of n or n - 1
-pub circle_dots_law : (r : ℕ) → circle_dots r ≡ 4 * (largest r + 1) + 4 * (largest r - cond (coincide r) 1 0)
+pub circle_dots_count : (r : ℕ) → circle_dots r ≡ 4 * (largest r + 1) + 4 * (largest r - cond (coincide r) 1 0)
 unfolding circle_dots arc_dc arc_dm
-circle_dots_law r = omega (arith, go (coincide r))
+circle_dots_count r = omega (arith, go (coincide r))
   where
     go : (t : Bool) → 4 * (largest r - cond t 0 0 + 1) + 4 * (largest r - cond t 1 0 + 1 - 1)
         ≡ 4 * (largest r + 1) + 4 * (largest r - cond t 1 0)
     go true = omega arith
     go false = omega arith
+
+-- so eight times "the largest i", and the four ends where the last dots do not coincide
+pub circle_dots_law : (r : ℕ) → 0 < r
+    → arc_dots r 0 + arc_dots r 1 + arc_dots r 2 + arc_dots r 3 + arc_dots r 4 + arc_dots r 5 + arc_dots r 6 + arc_dots r 7
+    ≡ 8 * largest r + cond (coincide r) 0 4
+unfolding arc_dc arc_dm
+circle_dots_law r pos = omega (arith, go (coincide r) (coincide_pos r pos))
+  where
+    -- 4 even arcs of n + 1 dots, and 4 odd ones of n or n - 1
+    go : (t : Bool) → (t ≡ true → 0 < largest r)
+        → 4 * suc (largest r - cond t 0 0) + 4 * (suc (largest r - cond t 1 0) - 1) ≡ 8 * largest r + cond t 0 4
+    go true f = omega (arith, f refl)
+    go false f = omega arith
 
 -- "so never at radius 1, where odd arcs have DC 0 and draw nothing"
 pub one_coincides_not : coincide 1 ≡ false
@@ -122,11 +140,11 @@ one_draws_none dir odd = (refl, omega arith)
 
 -- no more than in eight arcs of "the largest i", and the four ends
 pub dots_few : (r : ℕ) → circle_dots r ≤ 8 * largest r + 4
-dots_few r = omega (arith, circle_dots_law r)
+dots_few r = omega (arith, circle_dots_count r)
 
--- "at most 5,788 dots" in a circle that fits a plane
-pub dots_most : (r : ℕ) → r ≤ 1023 → circle_dots r ≤ 5788
-dots_most r b = omega (arith, dots_few r, below (dec_lt 723 (largest r)))
+-- "at most 5,788 dots" in a circle that fits a plane: counted by its arcs, and from "the largest i"
+largest_most : (r : ℕ) → r ≤ 1023 → largest r ≤ 723
+largest_most r b = below (dec_lt 723 (largest r))
   where
     below : Dec (723 < largest r) → largest r ≤ 723
     below (yes k) =
@@ -134,3 +152,10 @@ dots_most r b = omega (arith, dots_few r, below (dec_lt 723 (largest r)))
         let g : r * r ≤ 1023 * 1023 = square_le b in
         absurd (omega (arith, within r (largest r) (omega arith)))
     below (no k) = omega arith
+
+pub circle_dots_most : (r : ℕ) → r ≤ 1023 → circle_dots r ≤ 5788
+circle_dots_most r b = omega (arith, dots_few r, largest_most r b)
+
+pub dots_most : (r : ℕ) → r ≤ 1023 → 8 * largest r + cond (coincide r) 0 4 ≤ 5788
+dots_most r b =
+    cases (λ (v : ℕ). 8 * largest r + v ≤ 5788) (coincide r) (λ e. omega (arith, largest_most r b)) (λ e. omega (arith, largest_most r b))

@@ -11,7 +11,7 @@ use lib.ListN.{length, length-append}
 use borrow.Author.Tests.{ltb-true, ltb-false}
 use Rattle.geometry.specs.Plane.{distance}
 use Rattle.circles.specs.Circle.{out_below, circle_out, last_below, largest, coincide, arc_dm, arc_dc, circle_dots}
-use Rattle.circles.proofs.SizeLaws.{circle_dots_law}
+use Rattle.circles.proofs.SizeLaws.{circle_dots_count}
 use Rattle.entries.specs.Entries.{distance as apart}
 use Rattle.records.specs.declared.Point.{Point}
 use Rattle.records.specs.declared.Figure.{Figure}
@@ -34,7 +34,7 @@ module _ (a b : ℕ) where
 -- even arcs have the largest i and one dot more, odd ones the largest i, or one less where the last dots coincide
 module _ (r : ℕ) {n : ℕ} {t : Bool} (e : n ≡ largest r) (f : t ≡ coincide r) where
   counted : circle_dots r ≡ 4 * (n + 1) + 4 * (n - cond t 1 0)
-  counted = circle_dots_law r ∙ rw (e, f)
+  counted = circle_dots_count r ∙ rw (e, f)
 
   pub circle_less : (t && ltb 0 n) ≡ true → 8 * n ≡ circle_dots r
   circle_less q = rw counted (go t q)

@@ -23,8 +23,7 @@ use Rattle.sheets.specs.Sheet.{Outcome, outcome, figures_of}
 use Rattle.sheets.proofs.WorkedSheet.{sheet, listing, worked_sheet}
 use Rattle.sending.specs.Send.{Ready, sent_all, units_of}
 use Rattle.laws.proofs.SoundLaws.{fresh_sound, fresh_typed}
-use Rattle.costs.specs.Dots.{figures_dots}
-use Rattle.demand.specs.Picture.{figures_made}
+use Rattle.demand.specs.Picture.{figures_made, figures_dots}
 use Rattle.demand.specs.Shown.{Shown}
 use Rattle.sending.proofs.WaitLaws.{waiting}
 use Rattle.demand.proofs.Whole.{shown, picture_is_right}

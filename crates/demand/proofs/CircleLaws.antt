@@ -2,7 +2,7 @@
 -- FIGD then makes are that arc's dots (circling's `arc_drawn`); an arc with DM above DC makes none, and has none. No two of the eight arcs
 -- have a dot in common, and together they are the circle (crate circles), so one after the other they change each of its dots once.
 use mathlib.Core.Path.{◌≡◌, refl, sym, ap, ◌∙◌}
-use mathlib.Core.Bool.{Bool, true, false, ◌||◌, true≢false}
+use mathlib.Core.Bool.{Bool, true, false, cond, ◌||◌, true≢false}
 use Prim.Native.Nat.{ℕ, zero, suc, ◌+◌, ◌-◌, ◌*◌, ◌≤◌, ◌<◌}
 use native.Mathlib.Omega.{arith}
 use native.Mathlib.Decide.{ℕ_discrete}
@@ -12,9 +12,9 @@ use Rattle.geometry.proofs.TestLaws.{same_test, or_right, or_cases, some_found, 
 use Rattle.geometry.proofs.WalkLaws.{Sized}
 use Rattle.geometry.proofs.CycleLaws.{either_on}
 use Rattle.records.specs.declared.Point.{Point}
-use Rattle.circles.specs.Circle.{arc_dm, arc_dc, arc_dots, circle_dots, end_x, end_y, arc_on}
+use Rattle.circles.specs.Circle.{largest, coincide, arc_dm, arc_dc, arc_dots, end_x, end_y, arc_on}
 use Rattle.circles.proofs.CircleLaws.{at_most, arcs_disjoint, circle_is}
-use Rattle.circles.proofs.SizeLaws.{largest_le, circle_plane, circle_end}
+use Rattle.circles.proofs.SizeLaws.{largest_le, circle_plane, circle_end, circle_dots_law}
 use Rattle.entries.specs.Entries.{arc_start, arc_figs, arc_entries, arcs_from, circle_entries}
 use Rattle.registers.specs.declared.Drawing.{Drawing}
 use Rattle.registers.specs.Size.{arc_cycles_of}
@@ -125,7 +125,12 @@ module _ (p h : ℕ) (sized : Sized p h) (op : Operation) (c : Point) (r : ℕ) 
       from_at 8 0 f.0 x y (omega arith) (omega (arith, f.1)) f.2)
       ∙ circle_is c.x c.y r some left top x y
 
+  counts : (t : Bool) → 8 * largest r + cond t 0 4 ≡ 8 * largest r + 4 - cond t 4 0
+  counts true = omega arith
+  counts false = omega arith
+
   pub circle_law : (s : State) → Held p h s → s.regs.op ≡ op
-      → Draws p h op (circle_on c.x c.y r) solid s (circle_entries p c r) (circle_dots r)
-  unfolding circle_entries circle_dots
-  circle_law s held is = draws_as whole (omega arith) (arcs_law 8 0 (omega arith) s held is)
+      → Draws p h op (circle_on c.x c.y r) solid s (circle_entries p c r) (8 * largest r + 4 - cond (coincide r) 4 0)
+  unfolding circle_entries
+  circle_law s held is =
+      draws_as whole (omega (arith, circle_dots_law r some, counts (coincide r))) (arcs_law 8 0 (omega arith) s held is)

@@ -1,5 +1,5 @@
 -- What a sheet costs is what demand 3's run reports: `shown` counts a unit for each entry and for each dot, and the call counts the
--- same figures. The bound holds figure by figure, since each lies in the plane: a line has no more dots than the longer side, a border
+-- same figures (`figures_same`). The bound holds figure by figure, since each lies in the plane: a line has no more dots than the longer side, a border
 -- no more than go round the plane, nor has a circle; a glyph is at most 128 dots wide and high.
 use mathlib.Core.Path.{◌≡◌, sym, ap, ◌∙◌}
 use mathlib.Core.Bool.{Bool, true, false, cond, ◌||◌}
@@ -16,7 +16,7 @@ use Rattle.records.specs.declared.Figure.{Figure}
 use Rattle.records.specs.declared.Figure.TheVariants.{Dot, Line, Rectangle, Glyph, Circle}
 use Rattle.refusals.specs.Refusals.{room_of}
 use Rattle.sheets.specs.Lawful.{Lawful}
-use Rattle.sheets.specs.Slots.{sized, figures}
+use Rattle.sheets.specs.Slots.{sized, figures, translation}
 use Rattle.sheets.specs.Sheet.{figures_of}
 use Rattle.sheets.proofs.SlotLaws.{figures_few, figures_most, translation_length}
 use Rattle.costs.specs.declared.Cost.{Cost}
@@ -26,6 +26,7 @@ use Rattle.costs.proofs.CostLaws.{cost_told_law, cost_below}
 use Rattle.sending.proofs.WaitLaws.{waiting}
 use Rattle.demand.specs.Cost.{most_dots, UnitsAreEntriesAndDots, CostIsTheRuns, CyclesAreBounded, CostFits}
 use Rattle.demand.proofs.InsideLaws.{Inside, AllInside, sheet_inside}
+use Rattle.demand.proofs.DotLaws.{figures_same}
 use Rattle.demand.proofs.Whole.{shown}
 
 -- ---- the run
@@ -33,6 +34,8 @@ pub units_are_entries_and_dots : UnitsAreEntriesAndDots
 units_are_entries_and_dots sheet p h table w bytes r mem ready typed right room =
     (shown p h (record { wide = omega (arith, w.words); tall = w.lines; area = w.area }) table bytes (figures_of sheet p h table)
     (sheet_inside p h (length table) sheet (length sheet / 512)) r (waiting r ready typed) mem right room).units
+    ∙ ap (λ (n : ℕ). length (translation table p (figures_of sheet p h table)) + n)
+    (figures_same p h (figures_of sheet p h table) (sheet_inside p h (length table) sheet (length sheet / 512)))
 
 pub cost_is_the_runs : CostIsTheRuns
 cost_is_the_runs sheet p h table c e z bytes r mem ready typed right room =

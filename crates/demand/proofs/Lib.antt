@@ -11,4 +11,5 @@ pub mod SheetLaws
 pub mod Whole
 pub mod BenchLaws
 pub mod PictureLaws
+pub mod DotLaws
 pub mod CostLaws

@@ -9,7 +9,8 @@ use Rattle.dots.specs.Logic.{one_bit}
 use Rattle.geometry.specs.Plane.{Picture, changed, border_on, square_on, glyph_ink, lies_out, circle_on}
 use Rattle.records.specs.declared.Point.{Point}
 use Rattle.records.specs.declared.Figure.TheVariants.{Dot, Rectangle, Glyph, Circle}
-use Rattle.demand.specs.Picture.{figure_made, figures_made}
+use Rattle.circles.specs.Circle.{out_below, circle_out, last_below, largest, coincide}
+use Rattle.demand.specs.Picture.{figure_made, figures_made, figure_dots}
 
 abbrev blank : Picture
 blank x y = 0
@@ -52,3 +53,8 @@ ring x y = figure_made [] Complement (Circle (at 5 5) 3) blank x y
 circle_once : ring 5 2 ∷ ring 6 2 ∷ ring 7 3 ∷ ring 5 5 ∷ [] ≡ 1 ∷ 1 ∷ 1 ∷ 0 ∷ []
 unfolding changed circle_on lies_out one_bit
 circle_once = refl
+
+-- the four dots beside a dot, a circle whose octants' last dots coincide, and one whose do not
+circles_counted : figure_dots (Circle (at 5 5) 1) ∷ figure_dots (Circle (at 5 5) 3) ∷ figure_dots (Circle (at 9 9) 7) ∷ [] ≡ 4 ∷ 16 ∷ 36 ∷ []
+unfolding largest last_below coincide circle_out out_below
+circles_counted = refl

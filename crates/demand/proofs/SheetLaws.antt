@@ -7,11 +7,10 @@ use Prim.Native.Nat.{ℕ, suc, ◌+◌, ◌*◌, ◌≤◌, ◌<◌, min, max}
 use native.Mathlib.Omega.{arith}
 use lib.Dec.{eqb}
 use lib.ListN.{length, get_or}
-use borrow.Author.Tests.{eq-eqb, eqb-true, eqb-false}
+use borrow.Author.Tests.{eqb-false}
 use Rattle.dots.specs.declared.Operation.{Operation}
 use Rattle.dots.specs.Dot.{dot}
 use Rattle.geometry.specs.Plane.{InPlane, Picture, Shape, changed, solid, distance, border_on}
-use Rattle.geometry.proofs.TestLaws.{same_test}
 use Rattle.geometry.proofs.WalkLaws.{Sized}
 use Rattle.geometry.proofs.CycleLaws.{changed_under}
 use Rattle.geometry.proofs.BorderLaws.{border_ordered, flat_border}
@@ -24,9 +23,7 @@ use Rattle.entries.specs.Entries.{slope_of, least, greatest, flat_b, plain, figu
 use Rattle.sheets.specs.Slots.{translated}
 use Rattle.registers.specs.State.{State}
 use Rattle.sending.proofs.SendLaws.{Leads, leads_then, leads_nothing}
-use Rattle.costs.specs.Dots.{figure_dots, figures_dots}
-use Rattle.costs.proofs.DotLaws.{same_distance}
-use Rattle.demand.specs.Picture.{figure_on, figure_ink, figure_made, figures_made}
+use Rattle.demand.specs.Picture.{figure_on, figure_ink, figure_made, figures_made, figure_dots, figures_dots}
 use Rattle.demand.proofs.InsideLaws.{Inside, AllInside}
 use Rattle.demand.proofs.HeadLaws.{acts_wdat}
 use Rattle.demand.proofs.DrawsLaws.{Held, Draws, leads_count, draws_as, draws_held, dot_law}
@@ -56,28 +53,19 @@ makes held d = record {
 }
 
 -- ---- one figure, as given
+same_distance : (a b : ℕ) → entries.distance a b ≡ distance a b
+same_distance a b = omega arith
+
 ordered_distance : (a b : ℕ) → entries.distance (min a b) (max a b) ≡ distance a b
 ordered_distance a b = omega arith
 
-line_dots_law : (a b : Point) → suc (slope_of a b).major ≡ max (distance a.x b.x) (distance a.y b.y) + 1
+line_dots : (a b : Point) → suc (slope_of a b).major ≡ max (distance a.x b.x) (distance a.y b.y) + 1
 unfolding slope_of
-line_dots_law a b = rw (same_distance a.x b.x, same_distance a.y b.y) (omega arith)
+line_dots a b = rw (same_distance a.x b.x, same_distance a.y b.y) (omega arith)
 
 flat_dots : (a b : Point) → suc (slope_of (least a b) (greatest a b)).major ≡ max (distance a.x b.x) (distance a.y b.y) + 1
 unfolding slope_of
 flat_dots a b = rw (ordered_distance a.x b.x, ordered_distance a.y b.y) (omega arith)
-
--- a rectangle is flat where a distance is 0
-zero_apart : (x y : ℕ) → eqb x y ≡ eqb (distance x y) 0
-zero_apart x y =
-    same_test (eqb x y) (eqb (distance x y) 0) (λ e. eq-eqb (distance x y) 0 (omega (arith, eqb-true x y e)))
-    (λ e. eq-eqb x y (omega (arith, eqb-true (distance x y) 0 e)))
-
-flat_is : (a b : Point) → flat_b a b ≡ (eqb (distance a.x b.x) 0 || eqb (distance a.y b.y) 0)
-flat_is a b = rw (zero_apart a.x b.x, zero_apart a.y b.y)
-
-glyph_dots : (g : ℕ) → 8 * g * (8 * g) ≡ 64 * (g * g)
-glyph_dots g = omega arith
 
 or_neither : (a b : Bool) → (a || b) ≡ false → (a ≡ false) × (b ≡ false)
 or_neither true b e = absurd (true≢false e)
@@ -106,12 +94,9 @@ module _ (p h : ℕ) (sized : Sized p h) (t : List ℕ) (bytes : (i : ℕ) → g
 
     figure_law : (f : Figure) → Inside p h f → Makes p h (figure_made t op f) s (figure_entries t p (plain f)) (figure_dots f)
     figure_law (Dot a) i = makes held (dot_law p h sized s held op is a i)
-    figure_law (Line a b) i = makes held (draws_as (λ x y. refl) (line_dots_law a b) (line_law p h sized s held op is a b i.0 i.1))
-    figure_law (Rectangle a b) i =
-        makes held (draws_as (λ x y. refl) (rw (flat_is a b)) (rectangle a b i.0 i.1 (flat_b a b) refl))
-    figure_law (Glyph a n g) i =
-        makes held (draws_as (λ x y. refl) (glyph_dots g)
-        (glyph_law p h sized s held op is t bytes a n g i.some i.few i.right i.low))
+    figure_law (Line a b) i = makes held (draws_as (λ x y. refl) (line_dots a b) (line_law p h sized s held op is a b i.0 i.1))
+    figure_law (Rectangle a b) i = makes held (rectangle a b i.0 i.1 (flat_b a b) refl)
+    figure_law (Glyph a n g) i = makes held (glyph_law p h sized s held op is t bytes a n g i.some i.few i.right i.low)
     figure_law (Circle a r) i = makes held (circle_law p h sized op a r i.some i.few i.left i.top i.right i.low s held is)
 
   -- ---- a record: WDAT sets the operation, then the figure

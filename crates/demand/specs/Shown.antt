@@ -13,8 +13,7 @@ use Rattle.sheets.specs.Slots.{translation}
 use Rattle.sheets.specs.Sheet.{figures_of, outcome, translate_def}
 use Rattle.geometry.specs.Plane.{InPlane}
 use Rattle.sending.specs.Send.{Ready, sent_all, AllAccepted, units_of}
-use Rattle.costs.specs.Dots.{figures_dots}
-use Rattle.demand.specs.Picture.{figures_made}
+use Rattle.demand.specs.Picture.{figures_made, figures_dots}
 
 -- entries sent one at a time to the controller s draw the figures, glyphs from the table, in a plane of p words by h lines
 pub record Shown (p h : ℕ) (table : List ℕ) (figures : List Record) (entries : List ℕ) (s : State) : Type 0 where

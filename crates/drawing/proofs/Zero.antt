@@ -3,7 +3,8 @@
 use mathlib.Core.Path.{◌≡◌, refl, sym, ap, ◌∙◌}
 use mathlib.Core.Bool.{Bool, true, false, cond, ◌&&◌}
 use mathlib.Core.List.{List}
-use Prim.Native.Nat.{ℕ, zero, suc, ◌+◌, ◌*◌, ◌≤◌, ◌<◌}
+use Prim.Native.Nat.{ℕ, zero, suc, ◌+◌, ◌*◌, ◌/◌, ◌≤◌, ◌<◌}
+use Rattle.sheets.specs.Slots.{translation}
 use native.Mathlib.Omega.{arith}
 use lib.Dec.{eqb, ltb}
 use lib.ListN.{length}
@@ -17,7 +18,9 @@ use Rattle.sheets.specs.Sheet.{figures_of, translate_def}
 use Rattle.sheets.proofs.SheetLaws.{translated_means}
 use Rattle.sheets.proofs.AcceptLaws.{accepted_only}
 use Rattle.costs.specs.declared.Cost.{Cost}
-use Rattle.costs.specs.Dots.{figures_dots}
+use Rattle.demand.specs.Picture.{figures_dots}
+use Rattle.demand.proofs.DotLaws.{figures_same}
+use Rattle.demand.proofs.InsideLaws.{sheet_inside}
 use Rattle.costs.specs.Cost.{cost_of}
 use Rattle.costs.proofs.CostLaws.{lawful_told}
 use Rattle.laws.proofs.BranchLaws.{cases}
@@ -95,5 +98,7 @@ cost_is_told sheet p h glyphs r entries mem q out drawn e z bytes typed words c 
     f ∙ lawful_told sheet p h glyphs (accepted_only sheet p h glyphs entries refl g.accepted) in (
       ap (λ (x : Cost). x.number) k,
       ap (λ (x : Cost). x.first) k ∙ sym w.first,
-      ap (λ (x : Cost). x.units) k ∙ sym (w.units ∙ ap (λ (n : ℕ). n + figures_dots (figures_of sheet p h glyphs)) w.first),
+      ap (λ (x : Cost). x.units) k ∙ sym (w.units ∙ ap (λ (n : ℕ). n + figures_dots (figures_of sheet p h glyphs)) w.first
+          ∙ ap (λ (n : ℕ). length (translation glyphs p (figures_of sheet p h glyphs)) + n)
+          (figures_same p h (figures_of sheet p h glyphs) (sheet_inside p h (length glyphs) sheet (length sheet / 512)))),
     )

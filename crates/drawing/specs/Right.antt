@@ -14,9 +14,8 @@ use Rattle.sheets.specs.Sheet.{figures_of, translate_def}
 use Rattle.geometry.specs.Plane.{InPlane}
 use Rattle.sending.specs.Send.{Ready, sent_all, AllAccepted, units_of}
 use Rattle.costs.specs.declared.Cost.{Cost}
-use Rattle.costs.specs.Dots.{figures_dots}
 use Rattle.costs.specs.Cost.{cost_def}
-use Rattle.demand.specs.Picture.{figures_made}
+use Rattle.demand.specs.Picture.{figures_made, figures_dots}
 use Rattle.demand.specs.Shown.{Bytes}
 use Rattle.finishing.specs.Finish.{finished}
 use Rattle.drawing.specs.declared.Drawn.{Drawn}
