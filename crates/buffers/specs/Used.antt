@@ -1,5 +1,5 @@
 -- The part of a buffer that is in use.
-use Rattle.std.specs.Prelude.{ℕ, ◌≤◌, ◌≡◌, cond, List, leb, length}
+use Rattle.std.specs.Prelude.{ℕ, ◌≡◌, cond, List, leb, length}
 use Rattle.io.specs.Counts.{IsPrefixLen}
 
 -- n of its elements, or all where it has fewer

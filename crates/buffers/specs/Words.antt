@@ -1,5 +1,5 @@
 -- Words of a memory: zero words, a word put, and the digest of all.
-use Rattle.std.specs.Prelude.{ℕ, ◌+◌, ◌*◌, ◌/◌, ◌%◌, List, [], ◌∷◌, cond, ltb, length, set}
+use Rattle.std.specs.Prelude.{ℕ, ◌*◌, ◌/◌, ◌%◌, List, [], ◌∷◌, cond, ltb, length, set}
 use Rattle.std.specs.Int.Bits.{bit_xor}
 
 -- "a memory of n words, all zero"

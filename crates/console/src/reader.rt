@@ -78,14 +78,13 @@ fn take_line(input: &[u8], r: Reader, line: &mut [u8]) -> Reader
 }
 
 // The next piece of the script: how long it is, 0 at the script's end.
-fn fill(input: &mut [u8]) -> usize {
-    let got = libc::read(0, input);
-    io::count(got, input)
+fn fill(rt: &impl Input, input: &mut [u8]) -> usize {
+    outside::input(rt, input)
 }
 
 // The next piece is read; with none the script is closed, and at its end where no line was begun.
-fn refill(r: Reader, input: &mut [u8]) -> Reader {
-    let n = fill(input);
+fn refill(rt: &impl Input, r: Reader, input: &mut [u8]) -> Reader {
+    let n = fill(rt, input);
     Reader {
         at: 0,
         filled: n,
@@ -97,11 +96,18 @@ fn refill(r: Reader, input: &mut [u8]) -> Reader {
 }
 
 // The next line, if one is whole; else more of the script is read, with all answers written out before.
-pub fn next_line(r: Reader, input: &mut [u8], line: &mut [u8], out: &[u8], held: usize) -> Reader {
+pub fn next_line(
+    rt: &impl Input,
+    r: Reader,
+    input: &mut [u8],
+    line: &mut [u8],
+    out: &[u8],
+    held: usize,
+) -> Reader {
     let q = take_line(input, r, line);
     if q.whole {
         return q;
     }
     crate::output::flush(out, held);
-    refill(q, input)
+    refill(rt, q, input)
 }

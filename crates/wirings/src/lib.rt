@@ -6,6 +6,7 @@ ghost use Rattle.wirings.specs.Wired.{wiring_named, wired_as};
 
 use dots::Wiring;
 use registers::{Board, Registers};
+use std::rt::Env;
 
 // The wiring that a word names, or that it names none.
 #[derive(Clone, Copy)]
@@ -28,12 +29,12 @@ pub fn wiring_named(text: &[u8]) -> Named
 }
 
 // Argument i as a wiring: folded where it is not given.
-pub fn wiring_at(i: usize) -> Named {
-    if os::arg_count() <= i {
+pub fn wiring_at(rt: &impl Env, i: usize) -> Named {
+    if !outside::is_given(rt, i) {
         return Named::Is(Wiring::Folded);
     }
     let mut text = [0u8; 16];
-    let n = os::arg(i, &mut text);
+    let n = outside::arg(rt, i, &mut text);
     wiring_named(&text[..n])
 }
 
