@@ -1,5 +1,5 @@
-// The controller and the translator for C and Rust on x86-64, over the register set in plain numbers: a function for every entry.
-// A set that is no register set (crate plain, `formed`) is refused with 1.
+// The controller and the translator over the register set in plain numbers: a function for every entry. Crate mirror_c exports each to C
+// under its name. A set that is no register set (crate plain, `formed`) is refused with 1.
 #![tactic(auto)]
 
 ghost use Rattle.std.specs.Prelude.{◌≡◌};
@@ -114,7 +114,6 @@ fn sent_plain(d: Listed) -> PlainSent
 }
 
 // The fresh set.
-
 pub fn kranichseil_fresh() -> PlainRegisters
     ensures { result ≡ to_plain fresh_set }
 {
@@ -122,7 +121,6 @@ pub fn kranichseil_fresh() -> PlainRegisters
 }
 
 // A byte to the command port.
-
 pub fn kranichseil_command(r: PlainRegisters, byte: u8) -> PlainAnswer
     ensures { result ≡ asked r (command_written (from_plain r) byte) }
 {
@@ -130,7 +128,6 @@ pub fn kranichseil_command(r: PlainRegisters, byte: u8) -> PlainAnswer
 }
 
 // A byte to the parameter port.
-
 pub fn kranichseil_parameter(r: PlainRegisters, byte: u8) -> PlainAnswer
     ensures { result ≡ asked r (parameter_written (from_plain r) byte) }
 {
@@ -141,7 +138,6 @@ pub fn kranichseil_parameter(r: PlainRegisters, byte: u8) -> PlainAnswer
 }
 
 // A byte is read.
-
 pub fn kranichseil_read(r: PlainRegisters) -> PlainAnswer
     ensures { result ≡ asked r (byte_read (from_plain r)) }
 {
@@ -152,7 +148,6 @@ pub fn kranichseil_read(r: PlainRegisters) -> PlainAnswer
 }
 
 // The status is read.
-
 pub fn kranichseil_status(r: PlainRegisters) -> PlainAnswer
     ensures { result ≡ asked r (status_read (from_plain r)) }
 {
@@ -163,7 +158,6 @@ pub fn kranichseil_status(r: PlainRegisters) -> PlainAnswer
 }
 
 // A light-pen address is posted.
-
 pub fn kranichseil_pen(r: PlainRegisters, address: u32) -> PlainAnswer
     ensures { result ≡ asked r (pen_posted (from_plain r) address) }
 {
@@ -191,7 +185,6 @@ fn reply_of(d: PlainAnswer) -> PlainReply
 }
 
 // A byte to a port of the registers where they stand.
-
 pub fn kranichseil_board_write(r: &mut PlainRegisters, entry: u16) -> PlainReply
     ensures { replied result r.new ≡ asked r.old (written (from_plain r.old) entry) }
 {
@@ -201,7 +194,6 @@ pub fn kranichseil_board_write(r: &mut PlainRegisters, entry: u16) -> PlainReply
 }
 
 // A byte from a port of the registers where they stand.
-
 pub fn kranichseil_board_read(r: &mut PlainRegisters, port: u8) -> PlainReply
     ensures { replied result r.new ≡ asked r.old (read_from port (from_plain r.old)) }
 {
@@ -211,7 +203,6 @@ pub fn kranichseil_board_read(r: &mut PlainRegisters, port: u8) -> PlainReply
 }
 
 // The run, by value.
-
 pub fn kranichseil_run(r: PlainRegisters, mem: &mut [u16], budget: u32) -> PlainRan
     ensures { plained result mem.new ≡ ran_on r mem.old (run_done budget (state (from_plain r) mem.old)) }
 {
@@ -245,7 +236,6 @@ fn report_of(d: PlainRan) -> PlainReport
 }
 
 // The run on the registers where they stand.
-
 pub fn kranichseil_board_run(
     r: &mut PlainRegisters,
     mem: &mut [u16],
@@ -294,7 +284,6 @@ fn tally_of(d: PlainSent) -> PlainTally
 }
 
 // A list of entries sent to the registers where they stand.
-
 pub fn kranichseil_board_send(
     r: &mut PlainRegisters,
     entries: &[u16],
@@ -310,7 +299,6 @@ pub fn kranichseil_board_send(
 }
 
 // The sheet becomes entries at the output's start, for a plane of P words by H lines and a glyph table.
-
 pub fn kranichseil_translate(
     sheet: &[u8],
     p: u32,
@@ -329,7 +317,6 @@ pub fn kranichseil_translate(
 }
 
 // What the sheet costs, for a plane of P words by H lines and a glyph table; nothing is sent.
-
 pub fn kranichseil_cost(sheet: &[u8], p: u32, h: u32, glyphs: &[u8]) -> PlainCost
     ensures { costed result ≡ cost_def sheet.now p h glyphs.now }
 {

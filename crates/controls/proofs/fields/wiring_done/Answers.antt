@@ -1,0 +1,6 @@
+-- `wiring_done` gives `wiring_done`: the register set is what `wired` makes of it.
+use borrow.Author.Rules.{rules}
+use Rattle.controls.proofs.fields.wiring_done.Goals as goal
+
+pub returns : goal.returns
+returns c = rw (c.put.ensures, c.wired.ensures)

@@ -1,0 +1,6 @@
+-- `first` gives `first_fields`: each number is read off the registers.
+use borrow.Author.Rules.{rules}
+use Rattle.controls.proofs.listed.first.Goals as goal
+
+pub returns : goal.returns
+returns c = rw (c.operation_number.ensures, c.bit.ensures)

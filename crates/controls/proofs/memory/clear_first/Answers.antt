@@ -1,0 +1,7 @@
+-- `clear_first` gives `cleared_first`: `clear` over the part that is in use.
+use borrow.Author.Rules.{rules}
+use Rattle.controls.proofs.MemoryLaws.{clears}
+use Rattle.controls.proofs.memory.clear_first.Goals as goal
+
+pub returns : goal.returns
+returns c = clears _ _ c.words_used-n.ensures.same c.clear.ensures

@@ -1,0 +1,8 @@
+-- `run_within` gives `run_within`: a run over the part that is in use.
+use borrow.Author.Rules.{rules}
+use Rattle.controls.proofs.MemoryLaws.{ran_within}
+use Rattle.controls.proofs.memory.run_within.Goals as goal
+
+pub returns : goal.returns
+returns c =
+    ran_within _ _ _ _ c.words_used-n.ensures.same c.run.ensures

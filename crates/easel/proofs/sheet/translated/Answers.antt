@@ -1,0 +1,10 @@
+-- `translated` gives `translated_in`: the translator's answer, over the parts that are in use.
+use borrow.Author.Rules.{rules}
+use Rattle.easel.proofs.PartLaws.{translated_in_law}
+use Rattle.easel.proofs.sheet.translated.Goals as goal
+
+pub returns : goal.returns
+returns c =
+    translated_in_law _ _ _ _ c.words_used-n.ensures.same
+    c.sheet_of.ensures c.table_of.ensures
+    c.translate.ensures
