@@ -1,7 +1,8 @@
 -- The turns of the loops over a block's words and bytes and over the blocks: what is left to do, with what is done, is the whole. True
 -- because each
 -- definition takes one step where the loop takes one turn.
-use Rattle.std.proofs.Common.{◌≡◌, ℕ, zero, suc, ◌+◌, ◌-◌, ◌*◌, ◌%◌, ◌<◌, ◌≤◌, Bool, true, false, cond, ◌&&◌, eqb, List, sym, refl, ap, ◌∙◌, arith, eq-eqb, ne_eqb, eqb-true}
+use Rattle.std.proofs.Common.{◌≡◌, ℕ, zero, suc, ◌+◌, ◌-◌, ◌*◌, ◌%◌, ◌<◌, ◌≤◌, Bool, true, false, cond, ◌&&◌, eqb, List, sym, refl, ap, ◌∙◌}
+use Rattle.std.proofs.Common.{arith, eq-eqb, ne_eqb, eqb-true}
 use mir.Val.{bool_byte}
 use borrow.Author.Tests.{lt-leb}
 use Rattle.records.specs.Raw.{byte_at, word_at}

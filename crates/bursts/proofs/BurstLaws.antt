@@ -13,7 +13,8 @@ use Rattle.registers.specs.Size.{dots_of}
 use Rattle.figures.specs.Figure.{direction_at, running_d}
 use Rattle.walks.specs.declared.Brush.{Brush}
 use Rattle.walks.specs.declared.Reached.{Reached}
-use Rattle.walks.specs.Walk.{least, dotted, Led, led, figure_walk, lettered, next_row, rows_in, columns_in, Stood, stood, row_walk, rows_walk}
+use Rattle.walks.specs.Walk.{least, dotted, Led, led, figure_walk, lettered, next_row, rows_in, columns_in, Stood, stood, row_walk}
+use Rattle.walks.specs.Walk.{rows_walk}
 use Rattle.walks.proofs.LeastLaws.{is_least}
 use Rattle.bursts.specs.Burst.{Drawn, later, figure_burst, character_burst, whole_rows, rows_ahead, after_row}
 
@@ -187,7 +188,8 @@ module _ (b : Brush) where
 
   -- a whole row, and n of them
   whole_row : (j y : ℕ) (s : Cursor) (m : List ℕ) → 0 < C → y + 1 < R
-      → character_burst b (C + j) y 0 s s m ≡ later C (character_burst b j (y + 1) 0 (next_row b s) (next_row b s) (row_walk b C y 0 s m).mem)
+      → character_burst b (C + j) y 0 s s m ≡ later C
+      (character_burst b j (y + 1) 0 (next_row b s) (next_row b s) (row_walk b C y 0 s m).mem)
   whole_row j y s m p g =
       let n = C - 1 in
       let e : C + j ≡ n + suc j = omega arith in

@@ -64,5 +64,6 @@ rows_ahead most row column rows columns =
 unfoldable pub after_row : Brush → ℕ → ℕ → Cursor → Cursor → List ℕ → Drawn
 after_row b most row start c m =
     cond (ltb (row + 1) (rows_in b))
-    (character_burst b (whole_rows most (columns_in b) (rows_in b - row - 2) * columns_in b) (row + 1) 0 (next_row b start) (next_row b start) m)
+    (character_burst b (whole_rows most (columns_in b) (rows_in b - row - 2) * columns_in b) (row + 1) 0 (next_row b start)
+    (next_row b start) m)
     (record { count = 0; cursor = c; work = Idle; mem = m })

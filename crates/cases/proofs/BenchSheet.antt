@@ -21,10 +21,13 @@ use Rattle.sheets.specs.Slots.{translated, translation}
 use Rattle.cases.specs.BenchSheet.{bench, BenchHolds}
 
 pub bench_holds : BenchHolds
-unfolding bench one_bit combined bit of_bits fresh_set dots_of all_below sound_b pushed oldest popped family_of command_of operation_of reset_done
-    figure_begun figd_taken command_taken sync_by curs_by ram_by pitch_by mask_by figs_by bit_mapped_b set_done wdat_taken next_of parameter_taken
+unfolding bench one_bit combined bit of_bits fresh_set dots_of all_below sound_b pushed oldest popped family_of command_of operation_of
+    reset_done
+    figure_begun figd_taken command_taken sync_by curs_by ram_by pitch_by mask_by figs_by bit_mapped_b set_done wdat_taken next_of
+    parameter_taken
     entry_taken pattern_of pattern_at
-    line_direction error_after direction_at running_d figure_moved figure_unit fetched unit_done reason_of run_from length_b run_done queued_or3
+    line_direction error_after direction_at running_d figure_moved figure_unit fetched unit_done reason_of run_from length_b run_done
+    queued_or3
     command_written parameter_written byte_read dir_of slope_of line_entries entries_of translated translation
 bench_holds =
     (refl, (refl, (refl, (refl, (refl, (refl, (refl, (refl, (refl, (refl, (refl, (refl, (refl, (refl, (refl, (refl, tt))))))))))))))))

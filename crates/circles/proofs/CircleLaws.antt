@@ -197,7 +197,8 @@ module _ (cx cy r : ℕ) (pos : 0 < r) where
     drawn_across : Met (offset s cx i) (offset t cy (circle_out r i))
     drawn_across = at (ℕ_discrete (dir_of true s (not t) % 2) 0) (ℕ_discrete i 0) (ℕ_discrete i (circle_out r i))
       where
-        at : Dec (dir_of true s (not t) % 2 ≡ 0) → Dec (i ≡ 0) → Dec (i ≡ circle_out r i) → Met (offset s cx i) (offset t cy (circle_out r i))
+        at : Dec (dir_of true s (not t) % 2 ≡ 0) → Dec (i ≡ 0) → Dec (i ≡ circle_out r i)
+            → Met (offset s cx i) (offset t cy (circle_out r i))
         at (yes e) p q = by true s (not t) i _ _ (even_within r _ i e h) refl (rw (not_not t))
         at (no e) (yes p) q =
             by true (not s) (not t) i _ _ (even_within r _ i
@@ -213,7 +214,8 @@ module _ (cx cy r : ℕ) (pos : 0 < r) where
     drawn_along : Met (offset s cx (circle_out r i)) (offset t cy i)
     drawn_along = at (ℕ_discrete (dir_of false (not s) t % 2) 0) (ℕ_discrete i 0) (ℕ_discrete i (circle_out r i))
       where
-        at : Dec (dir_of false (not s) t % 2 ≡ 0) → Dec (i ≡ 0) → Dec (i ≡ circle_out r i) → Met (offset s cx (circle_out r i)) (offset t cy i)
+        at : Dec (dir_of false (not s) t % 2 ≡ 0) → Dec (i ≡ 0) → Dec (i ≡ circle_out r i)
+            → Met (offset s cx (circle_out r i)) (offset t cy i)
         at (yes e) p q = by false (not s) t i _ _ (even_within r _ i e h) (rw (not_not s)) refl
         at (no e) (yes p) q =
             by false (not s) (not t) i _ _ (even_within r _ i
@@ -295,7 +297,8 @@ module _ (cx cy r dir x y : ℕ) where
 
 module _ (cx cy r : ℕ) (pos : 0 < r) (left : r ≤ cx) (top : r ≤ cy) where
   -- no dot is of two arcs
-  pub arcs_disjoint : (dir dir' : ℕ) → dir < dir' → dir' < 8 → (x y : ℕ) → arc_on cx cy r dir x y ≡ true → arc_on cx cy r dir' x y ≡ true → ⊥
+  pub arcs_disjoint : (dir dir' : ℕ) → dir < dir' → dir' < 8 → (x y : ℕ) → arc_on cx cy r dir x y ≡ true → arc_on cx cy r dir' x y ≡ true
+      → ⊥
   arcs_disjoint dir dir' l h x y e f =
       let a = arc_found cx cy r dir x y e in
       let b = arc_found cx cy r dir' x y f in

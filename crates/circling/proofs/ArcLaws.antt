@@ -103,7 +103,8 @@ module _ (r : ℕ) (b : r ≤ 2000) where
         sym (is_out (suc i) (within r (suc i) h)) ∙ place_next i t e
         ∙ ap (inward t) (is_out i (within r i (omega arith)))
 
-    pub axis_stays : (i : ℕ) → suc i ≤ largest r → turns_b (running_after (circle_running r) i) ≡ false → circle_out r (suc i) ≡ circle_out r i
+    pub axis_stays : (i : ℕ) → suc i ≤ largest r → turns_b (running_after (circle_running r) i) ≡ false
+        → circle_out r (suc i) ≡ circle_out r i
     axis_stays i h e = next_out i h false e
 
     pub diagonal_falls : (i : ℕ) → suc i ≤ largest r → turns_b (running_after (circle_running r) i) ≡ true

@@ -130,7 +130,8 @@ module _ (cx cy r : ℕ) (pos : 0 < r) (most : r ≤ 2000) (left : r ≤ cx) (to
         along = omega (arith, beside r pos i k, out)
 
         go : (a s d : Bool) → InPlane p h (way_x a s cx i (circle_out r i)) (way_y a d cy i (circle_out r i))
-        go true s d = record { column = offset_lt s cx i r (16 * p) along right; row = offset_lt (not d) cy (circle_out r i) r h out bottom }
+        go true s d =
+            record { column = offset_lt s cx i r (16 * p) along right; row = offset_lt (not d) cy (circle_out r i) r h out bottom }
         go false s d =
             record { column = offset_lt (not s) cx (circle_out r i) r (16 * p) out right; row = offset_lt d cy i r h along bottom }
 

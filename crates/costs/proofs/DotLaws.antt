@@ -86,6 +86,7 @@ figures_counted : figure_dots (Dot (at 5 5)) ∷ figure_dots (Line (at 9 2) (at 
 figures_counted = refl
 
 -- the four dots beside a dot, a circle whose octants' last dots coincide, and one whose do not
-circles_counted : figure_dots (Circle (at 5 5) 1) ∷ figure_dots (Circle (at 5 5) 3) ∷ figure_dots (Circle (at 9 9) 7) ∷ [] ≡ 4 ∷ 16 ∷ 36 ∷ []
+circles_counted : figure_dots (Circle (at 5 5) 1) ∷ figure_dots (Circle (at 5 5) 3) ∷ figure_dots (Circle (at 9 9) 7) ∷ [] ≡ 4 ∷ 16 ∷ 36
+    ∷ []
 unfolding circle_dots arc_dc arc_dm largest last_below coincide circle_out out_below
 circles_counted = refl

@@ -68,7 +68,8 @@ module _ (p h : ℕ) (sized : Sized p h) (op : Operation) (c : Point) (r : ℕ) 
     unfolding arc_entries
     one_arc =
         draws_as (λ x y. refl) (omega (arith, cycles_are))
-        (arc_law p h sized s held op is (arc_start c r dir) (starts dir b) (arc_figs dir (arc_dc r dir) r (arc_dm dir)) (arc_drawing r dir) 11
+        (arc_law p h sized s held op is (arc_start c r dir) (starts dir b) (arc_figs dir (arc_dc r dir) r (arc_dm dir))
+        (arc_drawing r dir) 11
         (arc_on c.x c.y r dir) sets refl (omega (arith, cycles_are, dc_lt dir))
         (λ t ones. rw (← cycles_are) (arc_drawn c.x c.y r some few left top p h right low sized
         s.regs.board.wiring op s.mem held.room dir b t ones)))

@@ -2,7 +2,7 @@
 -- the plane both are the same number: a rectangle is flat where a distance is 0, and a circle's arcs have eight times "the largest i"
 -- dots and the four ends, but for the last dots that coincide.
 use mathlib.Core.Path.{◌≡◌, refl, ap₂, sym, ◌∙◌}
-use mathlib.Core.Bool.{Bool, true, false, cond, ◌||◌}
+use mathlib.Core.Bool.{Bool, true, false, cond}
 use mathlib.Core.List.{List, [], ◌∷◌}
 use Prim.Native.Nat.{ℕ, ◌+◌, ◌-◌, ◌*◌}
 use native.Mathlib.Omega.{arith}

@@ -55,6 +55,7 @@ unfolding changed circle_on lies_out one_bit
 circle_once = refl
 
 -- the four dots beside a dot, a circle whose octants' last dots coincide, and one whose do not
-circles_counted : figure_dots (Circle (at 5 5) 1) ∷ figure_dots (Circle (at 5 5) 3) ∷ figure_dots (Circle (at 9 9) 7) ∷ [] ≡ 4 ∷ 16 ∷ 36 ∷ []
+circles_counted : figure_dots (Circle (at 5 5) 1) ∷ figure_dots (Circle (at 5 5) 3) ∷ figure_dots (Circle (at 9 9) 7) ∷ [] ≡ 4 ∷ 16 ∷ 36
+    ∷ []
 unfolding largest last_below coincide circle_out out_below
 circles_counted = refl

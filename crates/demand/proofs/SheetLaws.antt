@@ -118,7 +118,8 @@ module _ (p h : ℕ) (sized : Sized p h) (t : List ℕ) (bytes : (i : ℕ) → g
 
   -- ---- all figures
   -- what figures make of a dot depends on that dot alone
-  figure_under : (op : Operation) (f : Figure) (a b : Picture) (x y : ℕ) → a x y ≡ b x y → figure_made t op f a x y ≡ figure_made t op f b x y
+  figure_under : (op : Operation) (f : Figure) (a b : Picture) (x y : ℕ) → a x y ≡ b x y
+      → figure_made t op f a x y ≡ figure_made t op f b x y
   figure_under op f a b x y e = changed_under op (figure_on f) (figure_ink t f) a b x y e
 
   figures_under : (l : List Record) (a b : Picture) (x y : ℕ) → a x y ≡ b x y → figures_made t l a x y ≡ figures_made t l b x y

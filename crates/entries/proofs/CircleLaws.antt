@@ -46,7 +46,8 @@ module _ (at p : ℕ) (c : Point) (r : ℕ) where
   arcs_start o = let f : at + 20 * 0 ≡ at = omega arith in rw f
 
   pub arcs_go_on : {o' : List ℕ} (o : List ℕ) (dir : ℕ) → dir < 8 → o' ≡ placed o (at + 20 * dir) (arc_entries p c r dir)
-      → placed o (at + 20 * dir) (arcs_from p c r (8 - dir) dir) ≡ placed o' (at + 20 * (dir + 1)) (arcs_from p c r (8 - (dir + 1)) (dir + 1))
+      → placed o (at + 20 * dir) (arcs_from p c r (8 - dir) dir)
+      ≡ placed o' (at + 20 * (dir + 1)) (arcs_from p c r (8 - (dir + 1)) (dir + 1))
   unfolding arcs_from
   arcs_go_on o dir h e =
       let f : 8 - dir ≡ suc (8 - (dir + 1)) = omega arith in

@@ -141,6 +141,7 @@ module _ (a b : Point) where
   pub dir_smallest : (e : ℕ) → e < dir_of a b → dir_fits e a b ≡ false
   unfolding dir_of
   dir_smallest e h =
-      let q = in_order (dir_fits 0 a b) (dir_fits 1 a b) (dir_fits 2 a b) (dir_fits 3 a b) (dir_fits 4 a b) (dir_fits 5 a b) (dir_fits 6 a b) in
+      let q = in_order (dir_fits 0 a b) (dir_fits 1 a b) (dir_fits 2 a b) (dir_fits 3 a b) (dir_fits 4 a b) (dir_fits 5 a b)
+      (dir_fits 6 a b) in
       let k : e < first_in seven = subst (λ (n : ℕ). e < n) q h in
       sym (tried e (omega (arith, k, short seven))) ∙ none_before seven e k

@@ -1,5 +1,6 @@
 -- 01, Drawing sheets, Translation, and 02's M-100: the entries for one figure. "16-bit entries, commands are the byte + 256".
-use Rattle.std.specs.Prelude.{ℕ, zero, suc, ◌+◌, ◌-◌, ◌*◌, ◌/◌, ◌%◌, min, max, List, [], ◌∷◌, ◌++◌, Bool, false, cond, ◌&&◌, ◌||◌, eqb, leb, get_or}
+use Rattle.std.specs.Prelude.{ℕ, zero, suc, ◌+◌, ◌-◌, ◌*◌, ◌/◌, ◌%◌, min, max, List, [], ◌∷◌, ◌++◌, Bool, false, cond, ◌&&◌, ◌||◌, eqb, leb}
+use Rattle.std.specs.Prelude.{get_or}
 use Rattle.std.proofs.lemmas.List.Edits.{sets}
 use Rattle.dots.specs.declared.Operation.{Operation}
 use Rattle.dots.specs.Operation.{operation_number}
@@ -170,7 +171,8 @@ glyph_rows t n =
 -- "for glyphs ZOOM g - 1, CURS, PRAM 8 with eight rows, FIGS, GCHRD"; "glyph from its bottom left, DIR 2, DC 7"; "4 GC"
 unfoldable pub glyph_entries : List ℕ → ℕ → Point → ℕ → ℕ → List ℕ
 glyph_entries t p a n g =
-    zoom_code ∷ (g - 1) ∷ cursor_entries (ead_of p (foot a g)) a.x ++ pram_code ∷ glyph_rows t n ++ figs_code ∷ 0x12 ∷ both 7 ++ gchrd_code ∷ []
+    zoom_code ∷ (g - 1) ∷ cursor_entries (ead_of p (foot a g)) a.x ++ pram_code ∷ glyph_rows t n ++ figs_code ∷ 0x12 ∷ both 7 ++ gchrd_code
+    ∷ []
 
 -- ---- circles (02, M-100)
 

@@ -14,7 +14,8 @@ module _ (s : State) where
   unmoved = record { number = 0; units = 0; left = s }
 
   still : (sound long : Bool)
-      → ran (runs (record { regs = (run_by sound long 0 s).ran.regs; units = (run_by sound long 0 s).ran.count }) (run_by sound long 0 s).mem)
+      → ran (runs (record { regs = (run_by sound long 0 s).ran.regs; units = (run_by sound long 0 s).ran.count })
+      (run_by sound long 0 s).mem)
       ≡ unmoved
   unfolding run_from
   still false long = refl

@@ -23,7 +23,8 @@ use Rattle.registers.specs.declared.Drawing.{Drawing}
 use Rattle.registers.specs.declared.Buffer.{Buffer}
 use Rattle.registers.specs.declared.Board.{Board}
 use Rattle.registers.specs.declared.Registers.{Registers}
-use Rattle.registers.specs.Size.{plain_kind, line_kind, character_kind, arc_kind, rectangle_kind, dots_of, arc_cycles_of, factor_of, rows_of}
+use Rattle.registers.specs.Size.{plain_kind, line_kind, character_kind, arc_kind, rectangle_kind, dots_of, arc_cycles_of, factor_of}
+use Rattle.registers.specs.Size.{rows_of}
 use Rattle.registers.specs.Size.{columns_of}
 use Rattle.registers.specs.Left.{character_left, cycles_left}
 use Rattle.registers.specs.Buffer.{oldest, popped}

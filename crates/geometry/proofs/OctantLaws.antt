@@ -103,7 +103,8 @@ module _ {x0 y0 x1 y1 n m : ℕ} (o : Octant x0 y0 x1 y1 n m) where
 
   -- the line's move after dot i goes to dot i + 1
   pub moves : (dir : ℕ) → dir_of o.across o.right o.down ≡ dir → n < 4096 → (i : ℕ) → i < n
-      → Next (cond (negative (ruled n m i).d) (axis_of dir) (diagonal_of dir)) (octant_x i) (octant_y i) (octant_x (suc i)) (octant_y (suc i))
+      → Next (cond (negative (ruled n m i).d) (axis_of dir) (diagonal_of dir)) (octant_x i) (octant_y i) (octant_x (suc i))
+      (octant_y (suc i))
   moves dir is b i k =
       rw (← is) (go o.across o.right o.down (ways o.across o.right o.down) o.wide o.tall
       (negative (ruled n m i).d) refl)

@@ -19,7 +19,8 @@ use Rattle.registers.specs.Sound.{write_b, sound_b, mark_b}
 use Rattle.registers.specs.Buffer.{pushed, popped}
 use Rattle.registers.proofs.BoolLaws.{false_true}
 use Rattle.ports.specs.declared.Answer.{Answer}
-use Rattle.ports.specs.Port.{queued, turned_back, queued_or3, command_in, command_written, parameter_in, parameter_written, byte_in, byte_read}
+use Rattle.ports.specs.Port.{queued, turned_back, queued_or3, command_in, command_written, parameter_in, parameter_written, byte_in}
+use Rattle.ports.specs.Port.{byte_read}
 use Rattle.ports.specs.Port.{status_read, pen_posted}
 use Rattle.laws.proofs.BranchLaws.{either, cases}
 use Rattle.laws.proofs.KeptLaws.{Going, SoundSet, idle, buffer_kept, pen_kept, turn_kept}

@@ -17,7 +17,8 @@ use Rattle.registers.specs.Sound.{sound_b}
 use Rattle.registers.specs.State.{State}
 use Rattle.figures.specs.Reading.{room_b, read_unit}
 use Rattle.units.specs.Unit.{fetch_by, unit_by, unit_done}
-use Rattle.units.specs.Run.{waiting, reason_by, reason_of, units_done, Outcome, outcome, stopped, run_from, length_b, fitted_b, run_refused, run_by}
+use Rattle.units.specs.Run.{waiting, reason_by, reason_of, units_done, Outcome, outcome, stopped, run_from, length_b, fitted_b, run_refused}
+use Rattle.units.specs.Run.{run_by}
 use Rattle.units.specs.Run.{run_done}
 use Rattle.laws.proofs.BranchLaws.{either, cases}
 use Rattle.laws.proofs.KeptLaws.{Whole, lawful_sound}

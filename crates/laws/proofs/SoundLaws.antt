@@ -166,8 +166,10 @@ running_whole a s = rw (lt-ltb a.d 16384 s.d, lt-ltb a.d1 16384 s.d1, lt-ltb a.d
 
 place_parts : (f : Drawing) (zoom : ℕ) (w : Work) → place_b f zoom w ≡ true → Inside f zoom w
 place_parts f zoom Idle e = tt
-place_parts f zoom (Figure k d) e =
-    (ltb-true k (dots_of f) (and_left (ltb k (dots_of f)) (ltb d 16384) e), ltb-true d 16384 (and_right (ltb k (dots_of f)) (ltb d 16384) e))
+place_parts f zoom (Figure k d) e = (
+  ltb-true k (dots_of f) (and_left (ltb k (dots_of f)) (ltb d 16384) e),
+  ltb-true d 16384 (and_right (ltb k (dots_of f)) (ltb d 16384) e),
+)
 place_parts f zoom (Arc k a) e =
     let inside = ltb k (arc_cycles_of f) in
     (ltb-true k (arc_cycles_of f) (and_left inside (running_b a) e), running_parts a (and_right inside (running_b a) e))

@@ -1,9 +1,8 @@
 -- What the type of a register set says of one is `Typed`. A function is told it of each parameter of that type on entry, as a fact for
 -- each field in the order of the struct: a number fits its width, an array has its length, and what is in progress has its variant's.
-use mathlib.Core.Path.{sym, ◌∙◌}
 use mathlib.Core.List.{List}
 use Prim.Native.Nat.{ℕ}
-use lib.ListN.{get_or, length-map}
+use lib.ListN.{get_or}
 use mir.Syntax.{w16}
 use mir.Val.{Val, Fits}
 use denote.Laws.{Is}

@@ -236,11 +236,7 @@ fn report_of(d: PlainRan) -> PlainReport
 }
 
 // The run on the registers where they stand.
-pub fn kranichseil_board_run(
-    r: &mut PlainRegisters,
-    mem: &mut [u16],
-    budget: u32,
-) -> PlainReport
+pub fn kranichseil_board_run(r: &mut PlainRegisters, mem: &mut [u16], budget: u32) -> PlainReport
     ensures { report result r.new mem.new
         ≡ ran_on r.old mem.old (run_done budget (state (from_plain r.old) mem.old)) }
 {

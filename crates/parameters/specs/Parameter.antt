@@ -5,7 +5,8 @@ use Rattle.dots.specs.declared.Cursor.{Cursor}
 use Rattle.registers.specs.declared.Drawing.{Drawing}
 use Rattle.registers.specs.declared.Video.{Video}
 use Rattle.registers.specs.declared.Registers.{Registers}
-use Rattle.registers.specs.Put.{put_pitch, put_ram, put_zoom, put_sync, put_cchar, put_kind, put_dir, put_gd, put_dc, put_d, put_d2, put_d1, put_dm}
+use Rattle.registers.specs.Put.{put_pitch, put_ram, put_zoom, put_sync, put_cchar, put_kind, put_dir, put_gd, put_dc, put_d, put_d2, put_d1}
+use Rattle.registers.specs.Put.{put_dm}
 
 -- a byte of a number takes its place, the other bits stay: the low byte; the high byte of 16 bits; of 14 bits
 abbrev pub low_byte : ℕ → ℕ → ℕ

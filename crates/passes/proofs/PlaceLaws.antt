@@ -1,6 +1,7 @@
 -- A move of a place is a move of the arc: the sums of D, D1 and D2 wrap at 14 bits because they stand highest, and a step along a direction
 -- is a sum on the bit address (`stride_steps`). So n moves are n moves, from wherever a bit address stands.
-use Rattle.std.proofs.Common.{◌≡◌, ℕ, zero, suc, ◌+◌, ◌*◌, ◌/◌, ◌%◌, ◌<◌, ◌≤◌, Bool, true, false, cond, ◌&&◌, ltb, leb, sym, ap, ◌∙◌, arith, ltb-true, le-leb}
+use Rattle.std.proofs.Common.{◌≡◌, ℕ, zero, suc, ◌+◌, ◌*◌, ◌/◌, ◌%◌, ◌<◌, ◌≤◌, Bool, true, false, cond, ◌&&◌, ltb, leb, sym, ap, ◌∙◌, arith}
+use Rattle.std.proofs.Common.{ltb-true, le-leb}
 use native.Mathlib.Decide.{dec_le}
 use borrow.Author.Tests.{lt-leb}
 use Rattle.dots.specs.Step.{step_of}

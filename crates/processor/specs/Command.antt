@@ -15,7 +15,8 @@ use Rattle.registers.specs.declared.Registers.{Registers}
 use Rattle.registers.specs.Fresh.{fresh_drawing, empty_buffer}
 use Rattle.registers.specs.Size.{arc_kind, dots_of, rows_of, columns_of}
 use Rattle.registers.specs.Left.{cycles_left}
-use Rattle.registers.specs.Put.{put_drawing, put_op, put_video, put_pen, put_mode, put_buffer, put_progress, put_work, put_remaining, put_display}
+use Rattle.registers.specs.Put.{put_drawing, put_op, put_video, put_pen, put_mode, put_buffer, put_progress, put_work, put_remaining}
+use Rattle.registers.specs.Put.{put_display}
 use Rattle.registers.specs.Put.{put_vsync}
 use Rattle.commands.specs.Decode.{within, command_of}
 use Rattle.arcs.specs.Unit.{arc_begun}

@@ -1,4 +1,5 @@
--- One law for each way out of `decode` and of `judge`: what the tests on that way say is what `decoded_of` and `judged` ask, in their order.
+-- One law for each way out of `decode` and of `judge`: what the tests on that way say is what `decoded_of` and `judged` ask, in their
+-- order.
 use mathlib.Core.Path.{◌≡◌}
 use mathlib.Core.Bool.{true, false}
 use Prim.Native.Nat.{ℕ}

@@ -1,4 +1,5 @@
--- One event: the kinds that `event_done` and `runs_of` tell apart by the tests that the code makes. None does more units than 272 budgets, as
+-- One event: the kinds that `event_done` and `runs_of` tell apart by the tests that the code makes. None does more units than 272 budgets,
+-- as
 -- a run does no more than its budget.
 use mathlib.Core.Path.{◌≡◌, refl}
 use Prim.Native.Nat.{ℕ, ◌%◌, ◌≤◌, ◌<◌}

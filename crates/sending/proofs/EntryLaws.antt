@@ -51,7 +51,8 @@ module _ {r : Registers} (v : Waiting r) where
   figs_command = acts_one v (omega arith) (λ q. omega arith) (λ m. refl) refl refl refl
 
   -- WDAT word, with the operation's number
-  pub wdat_command : (n : ℕ) → n < 4 → Acts r ((0x120 + n) ∷ []) (put_progress (put_op (drained r) (operation_of n)) (progress (Wdat Word) 0))
+  pub wdat_command : (n : ℕ) → n < 4 → Acts r ((0x120 + n) ∷ [])
+      (put_progress (put_op (drained r) (operation_of n)) (progress (Wdat Word) 0))
   unfolding entry_taken command_taken command_of family_of operation_of
   wdat_command zero h = acts_one v (omega arith) (λ q. omega arith) (λ m. refl) refl refl refl
   wdat_command (suc zero) h = acts_one v (omega arith) (λ q. omega arith) (λ m. refl) refl refl refl

@@ -14,7 +14,8 @@ use Rattle.registers.specs.declared.Command.TheVariants.{Zoom, Curs, Pram, Pitch
 use Rattle.registers.specs.declared.Drawing.{Drawing}
 use Rattle.registers.specs.declared.Registers.{Registers}
 use Rattle.registers.specs.Fresh.{fresh_drawing}
-use Rattle.registers.specs.Put.{put_cursor, put_pitch, put_drawing, put_ram, put_video, put_progress, put_zoom, put_gd, put_kind, put_dir, put_dc}
+use Rattle.registers.specs.Put.{put_cursor, put_pitch, put_drawing, put_ram, put_video, put_progress, put_zoom, put_gd, put_kind, put_dir}
+use Rattle.registers.specs.Put.{put_dc}
 use Rattle.registers.specs.Put.{put_d, put_d2, put_d1, put_dm}
 use Rattle.parameters.specs.Parameter.{low_byte, high_six, curs_by, figs_by}
 use Rattle.sending.proofs.WaitLaws.{Waiting, drained}

@@ -164,6 +164,7 @@ accepted_listed s l sound long few a =
     let whole : taken_from s l ≡ l = ap (λ (n : ℕ). take n l) all.0 ∙ take-length l in
     rw (sound, long)
     (ap (list_taken s) (take_all most_listed l few)
-    ∙ ap₂ (λ (n k : ℕ). listed (record { number = n; taken = k; units = units_of s (taken_from s l); regs = (sent_all s (taken_from s l)).regs })
+    ∙ ap₂ (λ (n k : ℕ). listed
+    (record { number = n; taken = k; units = units_of s (taken_from s l); regs = (sent_all s (taken_from s l)).regs })
     (sent_all s (taken_from s l)).mem) all.1 all.0
     ∙ ap (λ (x : List ℕ). ended 0 (length l) (units_of s x) (sent_all s x)) whole)

@@ -183,7 +183,8 @@ module _ (s : List ℕ) (p h : ℕ) (t : List ℕ) where
       (λ b. cond_below (check_b s b) _ 14 (cond_below (head_b s (length s / 512) b) 0 15 (omega arith) (omega arith)) (omega arith))
       (length s / 512) 0)
       (first_below (slot_answer s (room_of p h (length t)))
-      (λ k. cond_below (used_b s k) _ 0 (number_below (slot_decoded s (room_of p h (length t)) k)) (omega arith)) (50 * (length s / 512)) 0))
+      (λ k. cond_below (used_b s k) _ 0 (number_below (slot_decoded s (room_of p h (length t)) k)) (omega arith))
+      (50 * (length s / 512)) 0))
 
   -- the translator's answer 0 or 20 is given for a lawful sheet only
   module _ (o : List ℕ) {a : Answer} {o' : List ℕ} (e : outcome a o' ≡ translate_def s p h t o) where
@@ -195,6 +196,7 @@ module _ (s : List ℕ) (p h : ℕ) (t : List ℕ) where
     short_only z = go (eqb (sheet_refusal s p h t).number 0) refl (sym (ap (λ (x : Outcome). x.answer.number) e) ∙ z)
       where
         go : (u : Bool) → eqb (sheet_refusal s p h t).number 0 ≡ u
-            → (cond u (ended (length (translation t p (figures_of s p h t))) (length o)) (sheet_refusal s p h t)).number ≡ 20 → Lawful s p h t
+            → (cond u (ended (length (translation t p (figures_of s p h t))) (length o)) (sheet_refusal s p h t)).number ≡ 20
+            → Lawful s p h t
         go true q k = lawful_only s p h t (eqb-true _ 0 q)
         go false q k = let l = refusal_below in absurd (omega arith)

@@ -42,9 +42,11 @@ listing = 0x147 ∷ 0x28 ∷ 0x123
     ∷ []
 
 pub worked_circle : ◌≡◌ {A = List Outcome}
-    (translate_def sheet 40 400 [] (replicate 164 7) ∷ translate_def sheet 40 400 [] (replicate 162 7) ∷ translate_def sheet 40 21 [] [] ∷ [])
+    (translate_def sheet 40 400 [] (replicate 164 7) ∷ translate_def sheet 40 400 [] (replicate 162 7) ∷ translate_def sheet 40 21 [] []
+    ∷ [])
     (outcome (answer 0 163 0) (listing ++ 7 ∷ []) ∷ outcome (answer 20 163 0) (replicate 162 7) ∷ outcome (answer 19 0 0) [] ∷ [])
 unfolding sheet listing operation_of figure_of decoded_of decoded_at sum_words check_of zeros_b head_b block_refusal first_from
-    blocks_checked out_below circle_out last_below largest coincide arc_dm arc_dc arc_entries arcs_from circle_entries entries_of slot_refusal
+    blocks_checked out_below circle_out last_below largest coincide arc_dm arc_dc arc_entries arcs_from circle_entries entries_of
+    slot_refusal
     records_checked slot_figures figures_from figures translated translation frame_refusal sheet_refusal answer_of translate_def
 worked_circle = refl

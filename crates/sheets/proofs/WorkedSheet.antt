@@ -26,6 +26,7 @@ pub worked_sheet : ◌≡◌ {A = List Outcome}
     (translate_def sheet 40 400 [] (replicate 15 7) ∷ translate_def sheet 40 400 [] (replicate 12 7) ∷ [])
     (outcome (answer 0 13 0) (listing ++ 7 ∷ 7 ∷ []) ∷ outcome (answer 20 13 0) (replicate 12 7) ∷ [])
 unfolding sheet listing operation_of figure_of decoded_of decoded_at sum_words check_of zeros_b head_b block_refusal first_from
-    blocks_checked dir_of slope_of dot_entries line_entries rectangle_entries glyph_entries entries_of slot_refusal records_checked slot_figures
+    blocks_checked dir_of slope_of dot_entries line_entries rectangle_entries glyph_entries entries_of slot_refusal records_checked
+    slot_figures
     figures_from figures translated translation frame_refusal sheet_refusal answer_of translate_def
 worked_sheet = refl

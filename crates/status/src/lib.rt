@@ -51,7 +51,8 @@ fn is_read(m: Mode) -> bool
 // The status byte, of what it tells: the light pen, a figure, how many entries are held, read mode.
 pub fn status_by(pen: bool, drawing: bool, count: u8, reading: bool) -> u8
     ensures { result
-        ≡ 128 * one_if pen + 8 * one_if drawing + 4 * one_if (eqb count 0) + 2 * one_if (eqb count places) + one_if (reading && ltb 0 count) }
+        ≡ 128 * one_if pen + 8 * one_if drawing + 4 * one_if (eqb count 0) + 2 * one_if (eqb count places) + one_if
+        (reading && ltb 0 count) }
 {
     let pen = one_if(pen) as u16;
     let drawing = one_if(drawing) as u16;

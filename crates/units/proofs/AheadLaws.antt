@@ -152,7 +152,8 @@ module _ (r : Registers) where
           → run_from (b - 1) (j + 1) (placed_at (t - 1) w (k + 1) l') ≡ onward (b - 1) (j + 1) (t - 1) (arc_burst brush n (k + 1) w l')
           → run_from (b - 1) (j + 1) (unit_done (placed_at t v k m)) ≡ onward b j t (arc_burst brush (suc n) k v m)
       go (yes h) e =
-          ap (run_from (b - 1) (j + 1)) (arc_on_law t k v m h) ∙ e ∙ onward_later b j t _ ∙ ap (onward b j t) (sym (arc_goes brush n k v m h))
+          ap (run_from (b - 1) (j + 1)) (arc_on_law t k v m h) ∙ e
+          ∙ onward_later b j t _ ∙ ap (onward b j t) (sym (arc_goes brush n k v m h))
       go (no h) e =
           ap (run_from (b - 1) (j + 1)) (arc_end t k v m (omega arith)) ∙ ap (onward b j t) (sym (arc_last brush n k v m (omega arith)))
 

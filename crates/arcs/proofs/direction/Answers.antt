@@ -1,7 +1,6 @@
 -- `direction` is the definition, by whether the move is diagonal.
 use mathlib.Core.Path.{sym, ◌∙◌}
 use Rattle.arcs.specs.Arc.{arc_direction}
-use borrow.Author.Rules.{rules}
 use Rattle.arcs.proofs.direction.Goals as goal
 
 pub returns-then-turns : goal.returns-then-turns

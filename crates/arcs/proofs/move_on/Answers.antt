@@ -1,5 +1,4 @@
 -- `move_on` is the definition, of what its calls ensure.
-use borrow.Author.Rules.{rules}
 use Rattle.arcs.proofs.move_on.Goals as goal
 
 pub returns : goal.returns

@@ -1,10 +1,8 @@
 -- `pass`: after k rounds k moves are made.
 use mathlib.Core.Path.{◌≡◌, refl, ap, ◌∙◌}
-use Prim.Native.Nat.{◌≤◌, ◌-◌}
 use native.Mathlib.Numerals.{add-one}
 use native.Mathlib.Omega.{arith}
 use Rattle.arcs.specs.Arc.{passed, moved_on}
-use borrow.Author.Rules.{rules}
 use Rattle.arcs.proofs.pass.Goals as goal
 
 pub loop-k-init : goal.loop-k-init

@@ -1,10 +1,7 @@
 -- `pass`: after k rounds k moves are made.
-use mathlib.Core.Path.{◌≡◌, refl, ap, ◌∙◌}
+use mathlib.Core.Path.{◌≡◌}
 use Prim.Native.Nat.{◌≤◌, ◌-◌}
-use native.Mathlib.Numerals.{add-one}
-use native.Mathlib.Omega.{arith}
-use Rattle.arcs.specs.Arc.{passed, moved_on}
-use borrow.Author.Rules.{rules}
+use Rattle.arcs.specs.Arc.{passed}
 use Rattle.arcs.proofs.pass.Given as goal
 
 abbrev pub invariant-loop-k : goal.invariant-loop-k

@@ -1,6 +1,5 @@
 -- `run_on` is the definition, by D's sign after it has gained D1.
 use Rattle.arcs.proofs.RunningLaws.{turned_on, straight_on}
-use borrow.Author.Rules.{rules}
 use Rattle.arcs.proofs.run_on.Goals as goal
 
 pub returns-then-d-ge-SIGN : goal.returns-then-d-ge-SIGN

@@ -1,5 +1,4 @@
 -- `turns` is the definition.
-use borrow.Author.Rules.{rules}
 use Rattle.arcs.proofs.turns.Goals as goal
 
 pub returns : goal.returns

@@ -12,7 +12,8 @@ invariant-loop-j l =
       wide : l.width ≡ 2 * l.p;
       within : l.j ≤ length l.initial.image;
       long : length l.image ≡ length l.initial.image;
-      same : filled l.initial.image 0 (bytes_from l.p l.mem (length l.initial.image) 0) ≡ filled l.image l.j (bytes_from l.p l.mem (length l.initial.image - l.j) l.j);
+      same : filled l.initial.image 0 (bytes_from l.p l.mem (length l.initial.image) 0)
+          ≡ filled l.image l.j (bytes_from l.p l.mem (length l.initial.image - l.j) l.j);
     }
 
 abbrev pub decreases-loop-j : goal.decreases-loop-j

@@ -1,6 +1,5 @@
 -- `block_refusal` gives `block_refusal`: 14 is tested before 15, as there.
-use Rattle.std.proofs.Common.{sym, ◌∙◌, rules, eq-eqb, ne_eqb}
-use borrow.Author.Tests.{not-true, not-false}
+use Rattle.std.proofs.Common.{sym, ◌∙◌, eq-eqb, ne_eqb}
 use Rattle.blocks.specs.Block.{block_refusal}
 use Rattle.blocks.proofs.block_refusal.Goals as goal
 

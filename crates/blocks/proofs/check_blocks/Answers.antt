@@ -1,7 +1,5 @@
 -- `check_blocks` gives `blocks_checked`: the blocks left decide the answer as all the blocks do, at each turn.
-use Rattle.std.proofs.Common.{◌≡◌, ◌-◌, ◌≤◌, sym, ◌∙◌, rules}
-use Rattle.blocks.specs.Answer.{first_from}
-use Rattle.blocks.specs.Block.{block_answer, blocks_checked}
+use Rattle.std.proofs.Common.{sym, ◌∙◌, rules}
 use Rattle.blocks.proofs.BlockLaws.{blocks_start, blocks_stop, blocks_go_on, blocks_end}
 use Rattle.blocks.proofs.check_blocks.Goals as goal
 

@@ -1,7 +1,6 @@
 -- `check_sum` gives `check_of`: the sum so far, which wraps, and the words left make the check at each turn.
-use Rattle.std.proofs.Common.{◌≡◌, ◌-◌, ◌<◌, ◌≤◌, sym, ◌∙◌, rules}
-use Rattle.blocks.specs.Block.{check_of}
-use Rattle.blocks.proofs.BlockLaws.{left, sum_starts, sum_goes_on, sum_ends}
+use Rattle.std.proofs.Common.{sym, ◌∙◌, rules}
+use Rattle.blocks.proofs.BlockLaws.{sum_starts, sum_goes_on, sum_ends}
 use Rattle.blocks.proofs.check_sum.Goals as goal
 
 pub loop-i-init : goal.loop-i-init

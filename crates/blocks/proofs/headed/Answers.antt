@@ -1,5 +1,5 @@
 -- `headed` gives `head_b`: its tests are the definition's; a count over 50 makes both false.
-use Rattle.std.proofs.Common.{rules, le-leb}
+use Rattle.std.proofs.Common.{le-leb}
 use Rattle.blocks.specs.Block.{head_b}
 use Rattle.blocks.proofs.BlockLaws.{byte_bit, head_over, true_after}
 use Rattle.blocks.proofs.headed.Goals as goal

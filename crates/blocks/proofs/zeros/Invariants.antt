@@ -1,7 +1,6 @@
 -- `zeros` gives `zeros_b`: what is left to be zero decides the whole, at each turn.
-use Rattle.std.proofs.Common.{◌≡◌, ◌+◌, ◌-◌, ◌≤◌, sym, ◌∙◌, rules}
+use Rattle.std.proofs.Common.{◌≡◌, ◌+◌, ◌-◌, ◌≤◌}
 use Rattle.blocks.specs.Block.{zeros_b}
-use Rattle.blocks.proofs.BlockLaws.{zeros_start, zeros_fail, zeros_go_on, zeros_end}
 use Rattle.blocks.proofs.zeros.Given as goal
 
 abbrev pub invariant-loop-i : goal.invariant-loop-i

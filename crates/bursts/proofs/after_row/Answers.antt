@@ -1,7 +1,6 @@
 -- `after_row` is the definition: the character has ended, or whole rows come.
 use native.Mathlib.Omega.{arith}
 use Rattle.bursts.proofs.BurstLaws.{is_whole, rows_over, rows_done}
-use borrow.Author.Rules.{rules}
 use Rattle.bursts.proofs.after_row.Goals as goal
 
 pub returns-then-rows-row : goal.returns-then-rows-row

@@ -2,7 +2,6 @@
 use native.Mathlib.Omega.{arith}
 use Rattle.walks.proofs.LeastLaws.{is_least}
 use Rattle.bursts.proofs.BurstLaws.{figure_stopped, figure_ended}
-use borrow.Author.Rules.{rules}
 use Rattle.bursts.proofs.figure.Goals as goal
 
 pub overflow_add-end : goal.overflow_add-end

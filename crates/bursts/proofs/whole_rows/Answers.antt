@@ -1,6 +1,5 @@
 -- `whole_rows` is the definition.
 use borrow.Author.Tests.{eq-eqb, ne_eqb}
-use borrow.Author.Rules.{rules}
 use Rattle.bursts.specs.Burst.{whole_rows}
 use Rattle.bursts.proofs.whole_rows.Goals as goal
 

@@ -1,5 +1,4 @@
 -- `answer_plain` is the definition.
-use borrow.Author.Rules.{rules}
 use Rattle.bus.proofs.answer_plain.Goals as goal
 
 pub returns : goal.returns

@@ -2,8 +2,6 @@
 use Rattle.bus.proofs.BytesLaws.{turned_away, resets, turns_back, queues}
 use Rattle.bus.specs.Bytes.{granted_plain, answer_held}
 use mathlib.Core.Path.{sym, ap, ◌∙◌}
-use borrow.Author.Tests.{not-true, not-false}
-use borrow.Author.Rules.{rules}
 use Rattle.bus.proofs.command.Goals as goal
 
 pub returns-then-not-fits : goal.returns-then-not-fits

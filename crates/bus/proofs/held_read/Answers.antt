@@ -1,5 +1,4 @@
 -- `held_read` is the definition: no byte, or the oldest.
-use borrow.Author.Rules.{rules}
 use Rattle.bus.proofs.held_read.Goals as goal
 
 pub returns-then-mode-b : goal.returns-then-mode-b

@@ -1,6 +1,5 @@
 -- `held_written` is the definition: 4, 3 or an entry more.
 use borrow.Author.Tests.{eq-eqb, ne_eqb, le-leb, lt-leb}
-use borrow.Author.Rules.{rules}
 use Rattle.bus.proofs.held_written.Goals as goal
 
 pub returns-then-mode-ne0 : goal.returns-then-mode-ne0

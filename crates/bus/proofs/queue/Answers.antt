@@ -1,5 +1,4 @@
 -- `queue` is the definition, of what its calls ensure.
-use borrow.Author.Rules.{rules}
 use Rattle.bus.proofs.queue.Goals as goal
 
 pub returns : goal.returns

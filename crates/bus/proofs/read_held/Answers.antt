@@ -1,7 +1,6 @@
 -- `read_held` is the definition: the set does not fit, the status, or a byte.
 use mathlib.Core.Path.{sym, ◌∙◌}
-use borrow.Author.Tests.{not-true, not-false, eq-eqb, ne_eqb}
-use borrow.Author.Rules.{rules}
+use borrow.Author.Tests.{eq-eqb, ne_eqb}
 use Rattle.bus.proofs.read_held.Goals as goal
 
 pub returns-then-not-fits : goal.returns-then-not-fits

@@ -2,7 +2,6 @@
 use Rattle.bus.proofs.BytesLaws.{reads}
 use Rattle.bus.specs.Bytes.{answer_held}
 use mathlib.Core.Path.{ap, ◌∙◌}
-use borrow.Author.Rules.{rules}
 use Rattle.bus.proofs.read_plain.Goals as goal
 
 pub returns : goal.returns

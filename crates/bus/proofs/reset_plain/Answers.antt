@@ -1,5 +1,4 @@
 -- `reset_plain` is the definition, of what its calls ensure.
-use borrow.Author.Rules.{rules}
 use Rattle.bus.proofs.reset_plain.Goals as goal
 
 pub returns : goal.returns

@@ -2,7 +2,6 @@
 use Rattle.bus.proofs.BytesLaws.{read_mode, figure_there}
 use Rattle.status.specs.Status.{status_of}
 use Rattle.plain.specs.Mirror.{from_plain}
-use borrow.Author.Rules.{rules}
 use Rattle.bus.proofs.status_plain.Goals as goal
 
 pub returns : goal.returns

@@ -1,5 +1,4 @@
 -- `turned_plain` is the definition, of what its calls ensure.
-use borrow.Author.Rules.{rules}
 use Rattle.bus.proofs.turned_plain.Goals as goal
 
 pub returns : goal.returns

@@ -2,7 +2,6 @@
 -- buffer alone changes (`writes`).
 use Rattle.bus.proofs.BytesLaws.{turns_on, writes}
 use mathlib.Core.Path.{sym, ◌∙◌}
-use borrow.Author.Rules.{rules}
 use Rattle.bus.proofs.write_plain.Goals as goal
 
 pub returns-then-turns : goal.returns-then-turns

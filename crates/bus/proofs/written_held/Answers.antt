@@ -1,6 +1,5 @@
 -- `written_held` is the definition: the set fits, or not.
 use mathlib.Core.Path.{sym, ◌∙◌}
-use borrow.Author.Rules.{rules}
 use Rattle.bus.proofs.written_held.Goals as goal
 
 pub returns-then-fits : goal.returns-then-fits

@@ -1,12 +1,6 @@
 -- `circles::largest_of` meets its contract: 2i² stays at most r², and the loop ends where 2(i + 1)² is more. The measure is what
 -- is left to r, since such an i is at most r; and no square of a number of 17 bits passes 64 bits.
-use mathlib.Core.Path.{ap}
-use Prim.Native.Nat.{ℕ, ◌+◌, ◌*◌, ◌-◌, ◌≤◌}
-use native.Mathlib.Numerals.{add-one}
-use native.Mathlib.Omega.{arith}
-use borrow.Author.Rules.{rules}
-use Rattle.circles.proofs.OutLaws.{within_r}
-use Rattle.circles.proofs.SizeLaws.{square_small, largest_is}
+use Prim.Native.Nat.{◌*◌, ◌-◌, ◌≤◌}
 use Rattle.circles.proofs.largest_of.Given as goal
 
 abbrev pub invariant-loop-i : goal.invariant-loop-i

@@ -1,7 +1,6 @@
 -- `command_of` is the definition: at a code of the list it computes; any other byte differs from each code.
 use Rattle.commands.specs.Decode.{command_of}
 use borrow.Author.Tests.{ne_eqb}
-use borrow.Author.Rules.{rules}
 use Rattle.commands.proofs.command_of.Goals as goal
 
 pub returns-in-0 : goal.returns-in-0

@@ -1,6 +1,5 @@
 -- `border_dots` gives `border_dots`: flat, or all round.
 use Rattle.costs.proofs.DotLaws.{border_flat, border_round}
-use borrow.Author.Rules.{rules}
 use Rattle.costs.proofs.border_dots.Goals as goal
 
 pub returns-then-a-b : goal.returns-then-a-b

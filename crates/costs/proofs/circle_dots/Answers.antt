@@ -1,6 +1,5 @@
 -- `circle_dots` gives `circle_dots`, by the two laws of its ways out.
 use Rattle.costs.proofs.DotLaws.{circle_less, circle_more}
-use borrow.Author.Rules.{rules}
 use Rattle.costs.proofs.circle_dots.Goals as goal
 
 pub returns-then-coincides-largest : goal.returns-then-coincides-largest

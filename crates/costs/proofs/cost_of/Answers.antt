@@ -2,7 +2,6 @@
 use native.Mathlib.Omega.{arith}
 use Rattle.refusals.proofs.RefusalLaws.{sheet_framed}
 use Rattle.costs.proofs.CostLaws.{way_refused, way_counted}
-use borrow.Author.Rules.{rules}
 use Rattle.costs.proofs.cost_of.Goals as goal
 
 pub returns-then-refusal-ne0 : goal.returns-then-refusal-ne0

@@ -1,12 +1,9 @@
 -- `counted` counts figures, entries and dots: what is counted and what the slots left have are the whole, at each turn.
-use Prim.Native.Nat.{ℕ, ◌+◌, ◌-◌, ◌*◌, ◌≤◌}
+use Prim.Native.Nat.{◌+◌}
 use native.Mathlib.Omega.{arith}
-use mathlib.Core.List.{List}
-use mathlib.Core.Path.{◌≡◌, ap, ◌∙◌}
+use mathlib.Core.Path.{ap, ◌∙◌}
 use lib.ListN.{length}
-use borrow.Author.Rules.{rules}
-use Rattle.records.specs.declared.Room.{Room}
-use Rattle.sheets.specs.Slots.{sized, figures, figures_from}
+use Rattle.sheets.specs.Slots.{sized, figures}
 use Rattle.sheets.proofs.SlotLaws.{slot_small, slot_one, sized_append, figures_start, count_starts, count_goes_on, count_ends}
 use Rattle.costs.specs.declared.Share.{Share}
 use Rattle.costs.specs.Dots.{figures_dots}

@@ -1,17 +1,9 @@
 -- `counted` counts figures, entries and dots: what is counted and what the slots left have are the whole, at each turn.
-use Prim.Native.Nat.{ℕ, ◌+◌, ◌-◌, ◌*◌, ◌≤◌}
-use native.Mathlib.Omega.{arith}
-use mathlib.Core.List.{List}
-use mathlib.Core.Path.{◌≡◌, ap, ◌∙◌}
+use Prim.Native.Nat.{◌+◌, ◌-◌, ◌*◌, ◌≤◌}
+use mathlib.Core.Path.{◌≡◌}
 use lib.ListN.{length}
-use borrow.Author.Rules.{rules}
-use Rattle.records.specs.declared.Room.{Room}
 use Rattle.sheets.specs.Slots.{sized, figures, figures_from}
-use Rattle.sheets.proofs.SlotLaws.{slot_small, slot_one, sized_append, figures_start, count_starts, count_goes_on, count_ends}
-use Rattle.costs.specs.declared.Share.{Share}
 use Rattle.costs.specs.Dots.{figures_dots}
-use Rattle.costs.proofs.DotLaws.{dots_append, figures_append}
-use Rattle.costs.proofs.CostLaws.{cost_is}
 use Rattle.costs.proofs.counted.Given as goal
 
 abbrev pub invariant-loop-k : goal.invariant-loop-k

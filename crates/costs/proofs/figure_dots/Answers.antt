@@ -1,6 +1,5 @@
 -- `figure_dots` gives `figure_dots`, case by case of the figure.
 use Rattle.costs.proofs.DotLaws.{line_by_law, rectangle_by, dots_by}
-use borrow.Author.Rules.{rules}
 use Rattle.costs.proofs.figure_dots.Goals as goal
 
 pub returns-in-Line : goal.returns-in-Line

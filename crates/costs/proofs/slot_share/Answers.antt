@@ -1,9 +1,7 @@
 -- `slot_share` gives the share of `slot_figures`: none, or one record.
 use mathlib.Core.Path.{sym, ◌∙◌}
-use borrow.Author.Tests.{not-true, not-false}
 use Rattle.sheets.proofs.SlotLaws.{none, bad, good}
 use Rattle.costs.proofs.CostLaws.{share_none, share_one}
-use borrow.Author.Rules.{rules}
 use Rattle.costs.proofs.slot_share.Goals as goal
 
 pub returns-then-not-used : goal.returns-then-not-used

@@ -1,11 +1,9 @@
 -- `number_of` gives `decimal_of`: the digits still to be read decide, at each turn, after a number of 32 bits.
 use borrow.Author.Rules.{rules}
 use borrow.Author.Tests.{eq-eqb}
-use lib.ListN.{length, drop}
-use mathlib.Core.Path.{◌≡◌, sym, ◌∙◌}
-use Prim.Native.Nat.{◌-◌, ◌≤◌}
+use mathlib.Core.Path.{sym, ◌∙◌}
 use Rattle.decimals.proofs.Laws.{decimal_starts, decimal_fails, decimal_passes, decimal_goes_on, decimal_ends}
-use Rattle.decimals.specs.Decimal.{decimal_from, decimal_of}
+use Rattle.decimals.specs.Decimal.{decimal_of}
 use Rattle.decimals.proofs.number_of.Goals as goal
 
 pub returns-then-text-eq0 : goal.returns-then-text-eq0
@@ -27,14 +25,13 @@ returns-then-value-gt4294967295 c =
     c.if-d-eq10.false c.if-value-gt4294967295.true)
 
 pub loop-i-preserved : goal.loop-i-preserved
-loop-i-preserved c =
-    (
-      search rules,
-      search rules,
-      c.loop-i.invariant.2
-          ∙ decimal_goes_on _ _ _ c.loop-i-test.true c.digit_of-d.ensures.1
-          c.if-d-eq10.false c.if-value-gt4294967295.false,
-    )
+loop-i-preserved c = (
+  search rules,
+  search rules,
+  c.loop-i.invariant.2
+      ∙ decimal_goes_on _ _ _ c.loop-i-test.true c.digit_of-d.ensures.1
+      c.if-d-eq10.false c.if-value-gt4294967295.false,
+)
 
 pub returns : goal.returns
 returns c = sym (c.loop-i.invariant.2 ∙ decimal_ends _ _ _ c.loop-i-test.false)

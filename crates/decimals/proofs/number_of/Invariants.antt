@@ -1,10 +1,7 @@
 -- `number_of` gives `decimal_of`: the digits still to be read decide, at each turn, after a number of 32 bits.
-use borrow.Author.Rules.{rules}
-use borrow.Author.Tests.{eq-eqb}
 use lib.ListN.{length, drop}
-use mathlib.Core.Path.{◌≡◌, sym, ◌∙◌}
+use mathlib.Core.Path.{◌≡◌}
 use Prim.Native.Nat.{◌-◌, ◌≤◌}
-use Rattle.decimals.proofs.Laws.{decimal_starts, decimal_fails, decimal_passes, decimal_goes_on, decimal_ends}
 use Rattle.decimals.specs.Decimal.{decimal_from, decimal_of}
 use Rattle.decimals.proofs.number_of.Given as goal
 

@@ -1,7 +1,6 @@
 -- `cursor_at` is the definition: the word that it reads is 2 to the dot's number (`mask_at`).
 use Prim.Native.Nat.{◌/◌, ◌%◌}
 use native.Mathlib.Omega.{arith}
-use borrow.Author.Rules.{rules}
 use Rattle.dots.proofs.MaskLaws.{mask_at}
 use Rattle.dots.proofs.cursor_at.Goals as goal
 

@@ -4,7 +4,6 @@ use mathlib.Core.Path.{sym}
 use lib.ListN.{length}
 use native.Mathlib.Omega.{arith}
 use Rattle.dots.proofs.CycleLaws.{met_inside, cycled_met, cycled_past}
-use borrow.Author.Rules.{rules}
 use Rattle.dots.proofs.cycle.Goals as goal
 
 pub returns-then-at-n : goal.returns-then-at-n

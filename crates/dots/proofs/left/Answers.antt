@@ -1,4 +1,3 @@
-use borrow.Author.Rules.{rules}
 use Rattle.dots.proofs.left.Goals as goal
 
 pub returns : goal.returns

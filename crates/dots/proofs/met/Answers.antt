@@ -1,7 +1,6 @@
 -- `met`: the word that is there, or FFFF.
 use native.Mathlib.Omega.{arith}
 use Rattle.dots.proofs.CycleLaws.{met_read, met_past}
-use borrow.Author.Rules.{rules}
 use Rattle.dots.proofs.met.Goals as goal
 
 pub returns-then-at-mem : goal.returns-then-at-mem

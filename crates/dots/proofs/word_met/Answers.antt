@@ -1,7 +1,6 @@
 -- `word_met`: a word inside the memory is looked for first, since both wirings meet it.
 use mathlib.Core.Path.{sym}
 use Rattle.dots.proofs.CycleLaws.{met_inside, met_none}
-use borrow.Author.Rules.{rules}
 use Rattle.dots.proofs.word_met.Goals as goal
 
 pub returns-then-at-n : goal.returns-then-at-n

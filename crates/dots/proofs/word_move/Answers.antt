@@ -2,7 +2,6 @@ use Rattle.dots.proofs.StepLaws.{last_arm}
 use Rattle.dots.specs.Step.{word_right_of, word_left_of, word_move_of}
 use Prim.Native.Nat.{ℕ}
 use mathlib.Core.Path.{◌∙◌, ap, sym}
-use borrow.Author.Rules.{rules}
 use Rattle.dots.proofs.word_move.Goals as goal
 
 pub returns-in-0 : goal.returns-in-0

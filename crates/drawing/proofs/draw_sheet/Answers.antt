@@ -1,8 +1,6 @@
 -- `draw_sheet` is `sheet_drawn`: one law of DrawLaws for each way out.
 use mathlib.Core.Path.{sym, ◌∙◌}
-use borrow.Author.Tests.{not-true, not-false}
 use Rattle.drawing.proofs.DrawLaws.{way_unsound, way_mislong, way_larger, way_refused, way_sent, part_fits, part_long}
-use borrow.Author.Rules.{rules}
 use Rattle.drawing.proofs.draw_sheet.Goals as goal
 
 pub returns-then-not-sound : goal.returns-then-not-sound

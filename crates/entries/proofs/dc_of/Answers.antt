@@ -1,6 +1,5 @@
 -- `dc_of` takes one from the largest i for an odd arc where the last dots coincide, and nothing else.
 use native.Mathlib.Omega.{arith}
-use borrow.Author.Rules.{rules}
 use Rattle.entries.proofs.dc_of.Goals as goal
 
 pub returns-then-coincide : goal.returns-then-coincide

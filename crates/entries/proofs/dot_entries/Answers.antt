@@ -1,6 +1,5 @@
 -- `dot_entries` gives `dot_entries`: entry by entry what the calls give.
 use Rattle.entries.specs.Entries.{dot_entries}
-use borrow.Author.Rules.{rules}
 use Rattle.entries.proofs.dot_entries.Goals as goal
 
 pub returns : goal.returns

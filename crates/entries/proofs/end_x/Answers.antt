@@ -1,5 +1,4 @@
 -- `end_x` gives `end_x`: the ends of the eight arcs stand in a table in order of DIR.
-use borrow.Author.Rules.{rules}
 use Rattle.entries.proofs.CircleLaws.{end_x_is}
 use Rattle.entries.proofs.end_x.Goals as goal
 

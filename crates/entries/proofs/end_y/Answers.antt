@@ -1,5 +1,4 @@
 -- `end_y` gives `end_y`: the ends of the eight arcs stand in a table in order of DIR.
-use borrow.Author.Rules.{rules}
 use Rattle.entries.proofs.CircleLaws.{end_y_is}
 use Rattle.entries.proofs.end_y.Goals as goal
 

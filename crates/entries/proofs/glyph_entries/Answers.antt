@@ -1,6 +1,5 @@
 -- `glyph_entries` gives `glyph_entries`: entry by entry what the calls give.
 use Rattle.entries.specs.Entries.{glyph_entries}
-use borrow.Author.Rules.{rules}
 use Rattle.entries.proofs.glyph_entries.Goals as goal
 
 pub returns : goal.returns

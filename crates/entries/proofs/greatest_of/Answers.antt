@@ -1,5 +1,4 @@
 -- `greatest_of` gives `greatest`, coordinate by coordinate.
-use borrow.Author.Rules.{rules}
 use Rattle.entries.proofs.greatest_of.Goals as goal
 
 pub returns : goal.returns

@@ -1,5 +1,4 @@
 -- `least_of` gives `least`, coordinate by coordinate.
-use borrow.Author.Rules.{rules}
 use Rattle.entries.proofs.least_of.Goals as goal
 
 pub returns : goal.returns

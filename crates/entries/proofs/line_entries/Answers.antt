@@ -1,6 +1,5 @@
 -- `line_entries` gives `line_entries`: entry by entry what the calls give.
 use Rattle.entries.specs.Entries.{line_entries}
-use borrow.Author.Rules.{rules}
 use Rattle.entries.proofs.line_entries.Goals as goal
 
 pub returns : goal.returns

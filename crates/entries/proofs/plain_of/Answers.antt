@@ -1,5 +1,4 @@
 -- `plain_of` gives `plain`, case by case; a rectangle by the definition's own test of flatness.
-use borrow.Author.Rules.{rules}
 use Rattle.entries.proofs.plain_of.Goals as goal
 
 pub returns-then-a-b : goal.returns-then-a-b

@@ -1,10 +1,8 @@
 -- `put_circle` gives `placed` of `circle_entries`: the arcs that are still to be placed, from where the loop stands, make the same list at
 -- each turn.
 use borrow.Author.Rules.{rules}
-use Prim.Native.Nat.{◌+◌, ◌-◌, ◌*◌, ◌≤◌}
-use mathlib.Core.Path.{◌≡◌, refl, sym, ap, ◌∙◌}
-use lib.ListN.{length}
-use Rattle.entries.specs.Entries.{placed, arcs_from, circle_entries}
+use mathlib.Core.Path.{refl, sym, ap, ◌∙◌}
+use Rattle.entries.specs.Entries.{placed}
 use Rattle.entries.proofs.CircleLaws.{dc_is, arcs_start, arcs_go_on, arcs_end}
 use Rattle.entries.proofs.put_circle.Goals as goal
 

@@ -1,11 +1,9 @@
 -- `put_circle` gives `placed` of `circle_entries`: the arcs that are still to be placed, from where the loop stands, make the same list at
 -- each turn.
-use borrow.Author.Rules.{rules}
 use Prim.Native.Nat.{◌+◌, ◌-◌, ◌*◌, ◌≤◌}
-use mathlib.Core.Path.{◌≡◌, refl, sym, ap, ◌∙◌}
+use mathlib.Core.Path.{◌≡◌}
 use lib.ListN.{length}
 use Rattle.entries.specs.Entries.{placed, arcs_from, circle_entries}
-use Rattle.entries.proofs.CircleLaws.{dc_is, arcs_start, arcs_go_on, arcs_end}
 use Rattle.entries.proofs.put_circle.Given as goal
 
 abbrev pub invariant-loop-dir : goal.invariant-loop-dir

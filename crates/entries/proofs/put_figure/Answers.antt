@@ -2,7 +2,6 @@
 use mathlib.Core.Path.{refl, ◌∙◌, ap₂}
 use Rattle.entries.specs.Entries.{rectangle_entries}
 use Rattle.entries.proofs.PutLaws.{put_by}
-use borrow.Author.Rules.{rules}
 use Rattle.entries.proofs.put_figure.Goals as goal
 
 pub returns-in-Dot : goal.returns-in-Dot

@@ -1,9 +1,6 @@
 -- `put_from` gives `placed`: what is still to be placed, from where the loop stands, makes the same list at each turn.
 use borrow.Author.Rules.{rules}
-use Prim.Native.Nat.{◌+◌, ◌-◌, ◌≤◌}
-use mathlib.Core.Path.{◌≡◌, refl, sym, ◌∙◌}
-use lib.ListN.{length, drop}
-use Rattle.entries.specs.Entries.{placed}
+use mathlib.Core.Path.{refl, sym, ◌∙◌}
 use Rattle.entries.proofs.PutLaws.{put_starts, put_goes_on, put_ends}
 use Rattle.entries.proofs.put_from.Goals as goal
 

@@ -1,6 +1,5 @@
 -- `put_record` gives `placed` of `entries_of`: WDAT is stored, and the figure's entries are put behind it.
 use Rattle.entries.proofs.PutLaws.{record_put}
-use borrow.Author.Rules.{rules}
 use Rattle.entries.proofs.put_record.Goals as goal
 
 pub returns : goal.returns

@@ -1,6 +1,5 @@
 -- `rectangle_entries` gives `rectangle_entries`: entry by entry what the calls give.
 use Rattle.entries.specs.Entries.{rectangle_entries}
-use borrow.Author.Rules.{rules}
 use Rattle.entries.proofs.rectangle_entries.Goals as goal
 
 pub returns : goal.returns

@@ -1,6 +1,5 @@
 -- `size_of` gives `size_of`, case by case of the plain figure.
 use Rattle.entries.proofs.PutLaws.{size_by}
-use borrow.Author.Rules.{rules}
 use Rattle.entries.proofs.size_of.Goals as goal
 
 pub returns-in-Dot : goal.returns-in-Dot

@@ -1,7 +1,6 @@
 -- `store` gives `set`: past the end `set` changes nothing.
 use mathlib.Core.Path.{sym}
 use lib.Seq.{set_out}
-use borrow.Author.Rules.{rules}
 use Rattle.entries.proofs.store.Goals as goal
 
 pub returns-else-at-out : goal.returns-else-at-out

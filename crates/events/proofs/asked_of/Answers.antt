@@ -1,6 +1,5 @@
 -- `asked_of` gives `asked_by`: the same cases.
 use Rattle.events.specs.Event.{asked_by}
-use borrow.Author.Rules.{rules}
 use Rattle.events.proofs.asked_of.Goals as goal
 
 pub returns-in-Entry : goal.returns-in-Entry

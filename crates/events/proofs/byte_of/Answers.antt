@@ -1,8 +1,6 @@
 -- `byte_of` gives `byte_of`: the same test.
 use borrow.Author.Tests.{eq-eqb, ne_eqb}
 use Rattle.events.specs.Event.{byte_of}
-use borrow.Author.Rules.{rules}
-use borrow.Author.Rules.{rules}
 use Rattle.events.proofs.byte_of.Goals as goal
 
 pub returns-then-f-ne2 : goal.returns-then-f-ne2

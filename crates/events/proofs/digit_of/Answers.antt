@@ -1,8 +1,6 @@
 -- `digit_of` gives `digit_of`: the same tests.
 use borrow.Author.Tests.{lt-ltb, le-ltb}
 use Rattle.events.specs.Event.{digit_of}
-use borrow.Author.Rules.{rules}
-use borrow.Author.Rules.{rules}
 use Rattle.events.proofs.digit_of.Goals as goal
 
 pub returns-then-c-lt48 : goal.returns-then-c-lt48

@@ -1,8 +1,6 @@
 -- `entry_of` gives `entry_of`: the same tests.
 use borrow.Author.Tests.{lt-ltb, le-ltb}
 use Rattle.events.specs.Event.{entry_of}
-use borrow.Author.Rules.{rules}
-use borrow.Author.Rules.{rules}
 use Rattle.events.proofs.entry_of.Goals as goal
 
 pub returns-then-high-gt15 : goal.returns-then-high-gt15

@@ -3,7 +3,6 @@ use borrow.Author.Tests.{eq-eqb, ne_eqb, lt-ltb, le-ltb}
 use lib.Seq.{length-take-le}
 use mathlib.Core.Path.{sym}
 use Rattle.events.specs.Event.{event_of}
-use borrow.Author.Rules.{rules}
 use Rattle.events.proofs.event_of.Goals as goal
 
 pub returns-then-s-eq0 : goal.returns-then-s-eq0

@@ -1,8 +1,6 @@
 -- `field_of` gives `field_of`: the same letters.
 use borrow.Author.Tests.{ne_eqb}
 use Rattle.events.specs.Event.{field_of}
-use borrow.Author.Rules.{rules}
-use borrow.Author.Rules.{rules}
 use Rattle.events.proofs.field_of.Goals as goal
 
 pub returns-in-67 : goal.returns-in-67

@@ -2,8 +2,6 @@
 use borrow.Author.Tests.{eq-eqb, ne_eqb}
 use Rattle.events.proofs.Laws.{to_end}
 use Rattle.events.specs.Event.{said_by}
-use borrow.Author.Rules.{rules}
-use borrow.Author.Rules.{rules}
 use Rattle.events.proofs.said_by.Goals as goal
 
 pub returns-then-t-eq0 : goal.returns-then-t-eq0

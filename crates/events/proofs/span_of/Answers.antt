@@ -1,9 +1,6 @@
 -- `span_of` gives `span_of`: the blanks at the end fall off one by one.
-use lib.ListN.{length}
-use mathlib.Core.Path.{◌≡◌, sym, ◌∙◌}
-use Prim.Native.Nat.{◌≤◌}
+use mathlib.Core.Path.{sym, ◌∙◌}
 use Rattle.events.proofs.Laws.{blank_falls, other_stays, none_left}
-use Rattle.events.specs.Event.{span_of}
 use borrow.Author.Rules.{rules}
 use Rattle.events.proofs.span_of.Goals as goal
 

@@ -1,10 +1,8 @@
 -- `span_of` gives `span_of`: the blanks at the end fall off one by one.
 use lib.ListN.{length}
-use mathlib.Core.Path.{◌≡◌, sym, ◌∙◌}
+use mathlib.Core.Path.{◌≡◌}
 use Prim.Native.Nat.{◌≤◌}
-use Rattle.events.proofs.Laws.{blank_falls, other_stays, none_left}
 use Rattle.events.specs.Event.{span_of}
-use borrow.Author.Rules.{rules}
 use Rattle.events.proofs.span_of.Given as goal
 
 abbrev pub invariant-loop-n : goal.invariant-loop-n

@@ -1,7 +1,5 @@
 -- `units_of` gives `units_of`: the same cases.
 use Rattle.events.specs.Event.{units_of}
-use borrow.Author.Rules.{rules}
-use borrow.Author.Rules.{rules}
 use Rattle.events.proofs.units_of.Goals as goal
 
 pub returns-in-Bad : goal.returns-in-Bad

@@ -1,12 +1,8 @@
 -- `finish`: what is left to run from here, with the units so far, is what was to run from the start; a run that does not say that its
 -- budget is spent is the last one.
-use Prim.Native.Nat.{ℕ, ◌+◌, ◌*◌, ◌≤◌}
+use Prim.Native.Nat.{ℕ}
 use native.Mathlib.Omega.{arith}
-use mathlib.Core.List.{List}
 use mathlib.Core.Path.{◌≡◌, refl, sym, ap, ◌∙◌}
-use lib.ListN.{length}
-use borrow.Author.Rules.{rules}
-use Rattle.registers.specs.declared.Registers.{Registers}
 use Rattle.registers.specs.State.{state}
 use Rattle.finishing.specs.Finish.{more, runs_done, finished}
 use Rattle.finishing.proofs.FinishLaws.{none_more, no_run, goes_on, ends}

@@ -1,5 +1,4 @@
 -- `figure_fits` is the definition, of what its calls ensure.
-use borrow.Author.Rules.{rules}
 use Rattle.forms.proofs.figure_fits.Goals as goal
 
 pub returns : goal.returns

@@ -1,8 +1,6 @@
 -- `fits` tests part by part (`by_parts`): the first part that does not fit decides.
 use Rattle.forms.proofs.FitLaws.{by_parts}
 use mathlib.Core.Path.{refl, sym, ◌∙◌}
-use borrow.Author.Tests.{not-true, not-false}
-use borrow.Author.Rules.{rules}
 use Rattle.forms.proofs.fits.Goals as goal
 
 pub returns-then-not-numbers_fit : goal.returns-then-not-numbers_fit

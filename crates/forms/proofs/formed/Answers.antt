@@ -1,6 +1,5 @@
 -- `formed` is the definition, part by part.
 use Rattle.plain.specs.Form.{plain_form_b}
-use borrow.Author.Rules.{rules}
 use Rattle.forms.proofs.formed.Goals as goal
 
 pub returns : goal.returns

@@ -1,5 +1,4 @@
 -- `no_character` is the definition: its fields are 0 where their `or` is.
-use borrow.Author.Rules.{rules}
 use Rattle.forms.proofs.ZeroLaws.{all_zero}
 use Rattle.forms.proofs.no_character.Goals as goal
 

@@ -1,5 +1,4 @@
 -- `no_reading` is the definition: its fields are 0 where their `or` is.
-use borrow.Author.Rules.{rules}
 use Rattle.forms.proofs.ZeroLaws.{both_zero}
 use Rattle.forms.proofs.no_reading.Goals as goal
 

@@ -1,5 +1,4 @@
 -- `nothing_fits` is the definition, of what its calls ensure.
-use borrow.Author.Rules.{rules}
 use Rattle.forms.proofs.nothing_fits.Goals as goal
 
 pub returns : goal.returns

@@ -1,5 +1,4 @@
 -- `numbers_fit` is the definition, of what its calls ensure.
-use borrow.Author.Rules.{rules}
 use Rattle.forms.proofs.numbers_fit.Goals as goal
 
 pub returns : goal.returns

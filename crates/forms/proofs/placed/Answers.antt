@@ -1,5 +1,4 @@
 -- `placed` is the definition, of what its calls ensure.
-use borrow.Author.Rules.{rules}
 use Rattle.forms.proofs.placed.Goals as goal
 
 pub returns : goal.returns

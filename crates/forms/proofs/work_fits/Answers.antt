@@ -1,6 +1,5 @@
 -- `work_fits` goes by the kind: at each of them form and place are what its test says, and any other number is no kind.
 use borrow.Author.Tests.{ne_eqb}
-use borrow.Author.Rules.{rules}
 use Rattle.forms.proofs.work_fits.Goals as goal
 
 pub returns-then-kind-eq0 : goal.returns-then-kind-eq0

@@ -1,6 +1,5 @@
 -- `work_formed` is the definition (`form_by_field`).
 use Rattle.forms.proofs.FormLaws.{form_by_field}
-use borrow.Author.Rules.{rules}
 use Rattle.forms.proofs.work_formed.Goals as goal
 
 pub returns : goal.returns

@@ -1,6 +1,5 @@
 -- `begin` is `begun_by`: the entry is taken with an empty buffer, and the run goes on from there.
 use Rattle.lists.proofs.QuickLaws.{begins}
-use borrow.Author.Rules.{rules}
 use Rattle.lists.proofs.begin.Goals as goal
 
 pub returns : goal.returns

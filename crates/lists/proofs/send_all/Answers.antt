@@ -1,7 +1,5 @@
 -- `send_all` is `list_sent`: the run's two tests in their order, else the entries that are looked at.
 use mathlib.Core.Path.{sym, ◌∙◌}
-use borrow.Author.Tests.{not-true, not-false}
-use borrow.Author.Rules.{rules}
 use Rattle.sends.proofs.SendLaws.{way_unsound, way_mislong, way_sent, looked_long, looked_few}
 use Rattle.lists.proofs.send_all.Goals as goal
 

@@ -1,7 +1,6 @@
 -- `send_first` is `first_sent`: the same test, and then the entry at once or its port.
 use mathlib.Core.List.{[]}
 use Rattle.lists.proofs.QuickLaws.{begins_at_once, goes_by_port}
-use borrow.Author.Rules.{rules}
 use Rattle.lists.proofs.send_first.Goals as goal
 
 pub returns-then-at_once : goal.returns-then-at_once

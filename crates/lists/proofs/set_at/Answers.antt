@@ -1,6 +1,5 @@
 -- `set_at` is `set_at`: the same test, and then `settle`.
 use Rattle.lists.proofs.QuickLaws.{sets_at_once, sets_nothing}
-use borrow.Author.Rules.{rules}
 use Rattle.lists.proofs.set_at.Goals as goal
 
 pub returns-then-at_once : goal.returns-then-at_once

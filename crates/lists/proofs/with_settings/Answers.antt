@@ -1,5 +1,4 @@
 -- `with_settings` puts the settings into the set, with the empty buffer.
-use borrow.Author.Rules.{rules}
 use Rattle.lists.proofs.with_settings.Goals as goal
 
 pub returns : goal.returns

@@ -1,5 +1,4 @@
 -- `kranichseil_command` is the bus's `command`.
-use borrow.Author.Rules.{rules}
 use Rattle.mirror.proofs.kranichseil_command.Goals as goal
 
 pub returns : goal.returns

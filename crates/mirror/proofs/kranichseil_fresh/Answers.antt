@@ -1,5 +1,4 @@
 -- `kranichseil_fresh` is the fresh set in plain numbers.
-use borrow.Author.Rules.{rules}
 use Rattle.mirror.proofs.kranichseil_fresh.Goals as goal
 
 pub returns : goal.returns

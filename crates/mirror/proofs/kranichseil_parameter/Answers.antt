@@ -1,7 +1,5 @@
 -- `kranichseil_parameter` refuses what is no register set; else it asks the controller, and gives its answer in plain numbers.
 use mathlib.Core.Path.{sym, ◌∙◌}
-use borrow.Author.Tests.{not-true, not-false}
-use borrow.Author.Rules.{rules}
 use Rattle.mirror.proofs.kranichseil_parameter.Goals as goal
 
 pub returns-then-not-formed : goal.returns-then-not-formed

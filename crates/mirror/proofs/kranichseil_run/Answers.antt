@@ -1,8 +1,6 @@
 -- `kranichseil_run` refuses what is no register set; else it runs the controller, and gives its answer in plain numbers.
 use Rattle.mirror.proofs.AskedLaws.{runs}
 use mathlib.Core.Path.{sym, ◌∙◌}
-use borrow.Author.Tests.{not-true, not-false}
-use borrow.Author.Rules.{rules}
 use Rattle.mirror.proofs.kranichseil_run.Goals as goal
 
 pub returns-then-not-formed : goal.returns-then-not-formed

@@ -1,5 +1,4 @@
 -- `ran_plain` is the definition.
-use borrow.Author.Rules.{rules}
 use Rattle.mirror.proofs.ran_plain.Goals as goal
 
 pub returns : goal.returns

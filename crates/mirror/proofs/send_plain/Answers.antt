@@ -1,8 +1,6 @@
 -- `send_plain` refuses what is no register set; else it sends the entries, and gives the answer in plain numbers.
 use Rattle.mirror.proofs.AskedLaws.{sends}
 use mathlib.Core.Path.{sym, ◌∙◌}
-use borrow.Author.Tests.{not-true, not-false}
-use borrow.Author.Rules.{rules}
 use Rattle.mirror.proofs.send_plain.Goals as goal
 
 pub returns-then-not-formed : goal.returns-then-not-formed

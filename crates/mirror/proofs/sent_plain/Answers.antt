@@ -1,5 +1,4 @@
 -- `sent_plain` is the definition.
-use borrow.Author.Rules.{rules}
 use Rattle.mirror.proofs.sent_plain.Goals as goal
 
 pub returns : goal.returns

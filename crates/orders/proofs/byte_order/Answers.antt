@@ -1,6 +1,5 @@
 use borrow.Author.Tests.{ne_eqb, lt-ltb, le-ltb}
 use Rattle.orders.specs.Order.{byte_order}
-use borrow.Author.Rules.{rules}
 use Rattle.orders.proofs.byte_order.Goals as goal
 
 pub returns-then-n-gt255 : goal.returns-then-n-gt255

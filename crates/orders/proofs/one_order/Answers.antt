@@ -1,6 +1,5 @@
 use borrow.Author.Tests.{ne_eqb}
 use Rattle.orders.specs.Order.{one_order}
-use borrow.Author.Rules.{rules}
 use Rattle.orders.proofs.one_order.Goals as goal
 
 pub returns-in-77 : goal.returns-in-77

@@ -1,5 +1,4 @@
 use Rattle.orders.specs.Order.{order_of}
-use borrow.Author.Rules.{rules}
 use Rattle.orders.proofs.order_of.Goals as goal
 
 pub returns-in-Bad : goal.returns-in-Bad

@@ -1,6 +1,5 @@
 use borrow.Author.Tests.{ne_eqb}
 use Rattle.orders.specs.Order.{put_order}
-use borrow.Author.Rules.{rules}
 use Rattle.orders.proofs.put_order.Goals as goal
 
 pub returns-in-259 : goal.returns-in-259

@@ -1,6 +1,5 @@
 use borrow.Author.Tests.{lt-ltb, le-ltb}
 use Rattle.orders.specs.Order.{size_order}
-use borrow.Author.Rules.{rules}
 use Rattle.orders.proofs.size_order.Goals as goal
 
 pub returns-then-p-gt4294967295 : goal.returns-then-p-gt4294967295

@@ -1,6 +1,5 @@
 use borrow.Author.Tests.{ne_eqb}
 use Rattle.orders.specs.Order.{two_order}
-use borrow.Author.Rules.{rules}
 use Rattle.orders.proofs.two_order.Goals as goal
 
 pub returns-in-87 : goal.returns-in-87

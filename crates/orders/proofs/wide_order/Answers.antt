@@ -1,6 +1,5 @@
 use borrow.Author.Tests.{ne_eqb, lt-ltb, le-ltb}
 use Rattle.orders.specs.Order.{wide_order}
-use borrow.Author.Rules.{rules}
 use Rattle.orders.proofs.wide_order.Goals as goal
 
 pub returns-then-n-gt4294967295 : goal.returns-then-n-gt4294967295

@@ -1,6 +1,5 @@
 use borrow.Author.Tests.{lt-ltb, le-ltb}
 use Rattle.orders.specs.Order.{word_order}
-use borrow.Author.Rules.{rules}
 use Rattle.orders.proofs.word_order.Goals as goal
 
 pub returns-then-v-gt65535 : goal.returns-then-v-gt65535

@@ -1,7 +1,6 @@
 -- `cchar_byte` is the definition: a place, or a surplus byte.
 use Rattle.parameters.specs.Parameter.{cchar_by}
 use borrow.Author.Tests.{lt-ltb, le-ltb}
-use borrow.Author.Rules.{rules}
 use Rattle.parameters.proofs.cchar_byte.Goals as goal
 
 pub returns-then-at-lt3 : goal.returns-then-at-lt3

@@ -1,7 +1,6 @@
 -- `figs_byte` is the definition, byte by byte.
 use Rattle.parameters.specs.Parameter.{figs_by}
 use borrow.Author.Tests.{ne_eqb}
-use borrow.Author.Rules.{rules}
 use Rattle.parameters.proofs.figs_byte.Goals as goal
 
 pub returns-in-0 : goal.returns-in-0

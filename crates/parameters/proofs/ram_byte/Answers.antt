@@ -1,7 +1,6 @@
 -- `ram_byte` is the definition: a place, or a surplus byte.
 use Rattle.parameters.specs.Parameter.{ram_by}
 use borrow.Author.Tests.{lt-ltb, le-ltb}
-use borrow.Author.Rules.{rules}
 use Rattle.parameters.proofs.ram_byte.Goals as goal
 
 pub returns-then-at-lt16 : goal.returns-then-at-lt16

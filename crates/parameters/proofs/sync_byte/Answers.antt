@@ -1,7 +1,6 @@
 -- `sync_byte` is the definition: a place, or a surplus byte.
 use Rattle.parameters.specs.Parameter.{sync_by}
 use borrow.Author.Tests.{lt-ltb, le-ltb}
-use borrow.Author.Rules.{rules}
 use Rattle.parameters.proofs.sync_byte.Goals as goal
 
 pub returns-then-at-lt8 : goal.returns-then-at-lt8

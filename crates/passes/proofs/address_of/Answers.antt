@@ -1,6 +1,5 @@
 -- `address_of` says where the arc stands, if anywhere.
 use Rattle.passes.proofs.PlaceLaws.{stands_narrow, stands_nowhere}
-use Rattle.std.proofs.Common.{rules}
 use Rattle.passes.proofs.address_of.Goals as goal
 
 pub returns-then-running_fits : goal.returns-then-running_fits

@@ -1,6 +1,5 @@
 -- `begin_arc` is the definition, by whether the arc has a dot to draw.
 use Rattle.arcs.proofs.RunningLaws.{arc_begins, arc_passes}
-use Rattle.std.proofs.Common.{rules}
 use Rattle.passes.proofs.begin_arc.Goals as goal
 
 pub returns-then-arc_cycles_of-gt0 : goal.returns-then-arc_cycles_of-gt0

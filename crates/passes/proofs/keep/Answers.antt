@@ -1,5 +1,5 @@
 -- `keep` is the definition.
-use Rattle.std.proofs.Common.{refl, rules}
+use Rattle.std.proofs.Common.{refl}
 use Rattle.passes.specs.Place.{kept}
 use Rattle.passes.proofs.keep.Goals as goal
 

@@ -1,6 +1,5 @@
 -- `pass` moves as the cursor does, either way.
 use Rattle.passes.proofs.PlaceLaws.{passes_by}
-use Rattle.std.proofs.Common.{rules}
 use Rattle.passes.proofs.pass.Goals as goal
 
 pub returns : goal.returns

@@ -1,5 +1,5 @@
 -- `pass_loop`: after k rounds k moves are made.
-use Rattle.std.proofs.Common.{◌≡◌, ◌-◌, ◌≤◌, refl, ap, ◌∙◌, add-one, arith, rules}
+use Rattle.std.proofs.Common.{◌≡◌, refl, ap, ◌∙◌, add-one, arith}
 use Rattle.passes.specs.Place.{place_on, place_passed}
 use Rattle.passes.proofs.pass_loop.Goals as goal
 

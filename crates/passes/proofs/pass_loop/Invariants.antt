@@ -1,6 +1,6 @@
 -- `pass_loop`: after k rounds k moves are made.
-use Rattle.std.proofs.Common.{◌≡◌, ◌-◌, ◌≤◌, refl, ap, ◌∙◌, add-one, arith, rules}
-use Rattle.passes.specs.Place.{place_on, place_passed}
+use Rattle.std.proofs.Common.{◌≡◌, ◌-◌, ◌≤◌}
+use Rattle.passes.specs.Place.{place_passed}
 use Rattle.passes.proofs.pass_loop.Given as goal
 
 abbrev pub invariant-loop-k : goal.invariant-loop-k

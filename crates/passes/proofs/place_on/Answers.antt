@@ -1,6 +1,5 @@
 -- `place_on` is the definition, by D's sign.
 use Rattle.passes.proofs.PlaceLaws.{turned, went_straight}
-use Rattle.std.proofs.Common.{rules}
 use Rattle.passes.proofs.place_on.Goals as goal
 
 pub returns-then-d-ge-SIGN : goal.returns-then-d-ge-SIGN

@@ -1,5 +1,4 @@
 -- `standing` is the definition.
-use Rattle.std.proofs.Common.{rules}
 use Rattle.passes.proofs.standing.Goals as goal
 
 pub returns : goal.returns

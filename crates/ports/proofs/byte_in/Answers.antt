@@ -2,7 +2,6 @@
 use Rattle.ports.proofs.PortLaws.{by_mode, none_held, one_held}
 use Rattle.ports.specs.Port.{byte_in}
 use Rattle.registers.specs.declared.Mode.{Mode}
-use borrow.Author.Rules.{rules}
 use Rattle.ports.proofs.byte_in.Goals as goal
 
 pub returns-then-r-eq0 : goal.returns-then-r-eq0

@@ -5,7 +5,6 @@ use Rattle.registers.specs.declared.Registers.{Registers}
 use Rattle.registers.specs.declared.Mode.{Mode}
 use Prim.Native.Nat.{◌+◌}
 use mathlib.Core.Path.{◌∙◌, ap}
-use borrow.Author.Rules.{rules}
 use Rattle.ports.proofs.command_in.Goals as goal
 
 pub returns-in-Write : goal.returns-in-Write

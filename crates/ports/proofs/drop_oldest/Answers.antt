@@ -1,5 +1,4 @@
 -- `drop_oldest` is the definition, of what its call ensures.
-use borrow.Author.Rules.{rules}
 use Rattle.ports.proofs.drop_oldest.Goals as goal
 
 pub returns : goal.returns

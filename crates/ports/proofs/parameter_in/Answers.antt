@@ -2,7 +2,6 @@
 use Rattle.ports.proofs.PortLaws.{by_mode}
 use Rattle.ports.specs.Port.{parameter_in}
 use Rattle.registers.specs.declared.Mode.{Mode}
-use borrow.Author.Rules.{rules}
 use Rattle.ports.proofs.parameter_in.Goals as goal
 
 pub returns-in-Write : goal.returns-in-Write

@@ -2,8 +2,7 @@
 use Rattle.dots.specs.Step.{addresses}
 use Rattle.ports.proofs.PortLaws.{turned_away, let_through}
 use Rattle.ports.specs.Port.{pen_posted}
-use borrow.Author.Tests.{not-true, not-false, le-leb, lt-leb}
-use borrow.Author.Rules.{rules}
+use borrow.Author.Tests.{le-leb, lt-leb}
 use Rattle.ports.proofs.post_pen.Goals as goal
 
 pub returns-then-not-sound : goal.returns-then-not-sound

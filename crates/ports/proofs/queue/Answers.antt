@@ -1,5 +1,4 @@
 -- `queue` is the definition, of what its call ensures.
-use borrow.Author.Rules.{rules}
 use Rattle.ports.proofs.queue.Goals as goal
 
 pub returns : goal.returns

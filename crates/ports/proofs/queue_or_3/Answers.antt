@@ -1,7 +1,6 @@
 -- `queue_or_3` is the definition: full, or room.
 use Rattle.ports.specs.Port.{queued_or3}
 use borrow.Author.Tests.{le-leb, lt-leb}
-use borrow.Author.Rules.{rules}
 use Rattle.ports.proofs.queue_or_3.Goals as goal
 
 pub returns-then-r-ge-PLACES : goal.returns-then-r-ge-PLACES

@@ -1,8 +1,6 @@
 -- `read_status` refuses an unsound set, and else is the definition (`turned_away`, `let_through`).
 use Rattle.ports.proofs.PortLaws.{turned_away, let_through}
 use Rattle.ports.specs.Port.{status_read}
-use borrow.Author.Tests.{not-true, not-false}
-use borrow.Author.Rules.{rules}
 use Rattle.ports.proofs.read_status.Goals as goal
 
 pub returns-then-not-sound : goal.returns-then-not-sound

@@ -1,5 +1,4 @@
 -- `turn_back` is the definition, register by register.
-use borrow.Author.Rules.{rules}
 use Rattle.ports.proofs.turn_back.Goals as goal
 
 pub returns : goal.returns

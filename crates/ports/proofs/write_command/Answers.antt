@@ -1,8 +1,7 @@
 -- `write_command` refuses an unsound set, and else is the definition (`turned_away`, `let_through`).
 use Rattle.ports.proofs.PortLaws.{turned_away, let_through}
 use Rattle.ports.specs.Port.{command_written}
-use borrow.Author.Tests.{not-true, not-false, eq-eqb, ne_eqb}
-use borrow.Author.Rules.{rules}
+use borrow.Author.Tests.{eq-eqb, ne_eqb}
 use Rattle.ports.proofs.write_command.Goals as goal
 
 pub returns-then-not-sound : goal.returns-then-not-sound

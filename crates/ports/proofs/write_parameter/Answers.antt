@@ -1,8 +1,6 @@
 -- `write_parameter` refuses an unsound set, and else is the definition (`turned_away`, `let_through`).
 use Rattle.ports.proofs.PortLaws.{turned_away, let_through}
 use Rattle.ports.specs.Port.{parameter_written}
-use borrow.Author.Tests.{not-true, not-false}
-use borrow.Author.Rules.{rules}
 use Rattle.ports.proofs.write_parameter.Goals as goal
 
 pub returns-then-not-sound : goal.returns-then-not-sound

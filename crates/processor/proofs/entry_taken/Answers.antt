@@ -1,6 +1,5 @@
 -- `entry_taken` is the definition: with the command mark, or without.
 use Rattle.processor.proofs.EntryLaws.{entry_parameter, entry_command}
-use borrow.Author.Rules.{rules}
 use Rattle.processor.proofs.entry_taken.Goals as goal
 
 pub returns-then-e-lt256 : goal.returns-then-e-lt256

@@ -1,7 +1,6 @@
 -- `byte_at` gives `byte_at`: within the slice the element, past it `get_or`'s default.
 use mathlib.Core.Path.{sym}
 use lib.ListN.{get_or-eq_default}
-use borrow.Author.Rules.{rules}
 use Rattle.records.proofs.byte_at.Goals as goal
 
 pub returns-else-at-s : goal.returns-else-at-s

@@ -1,8 +1,6 @@
 -- `decode` gives `decoded_of`: one law of DecodeLaws for each way out.
 use mathlib.Core.Path.{sym, ◌∙◌}
-use borrow.Author.Tests.{not-true, not-false}
 use Rattle.records.proofs.DecodeLaws.{misformed, unknown, misfactored, out_of_range, stands_for}
-use borrow.Author.Rules.{rules}
 use Rattle.records.proofs.decode.Goals as goal
 
 pub returns-then-not-formed : goal.returns-then-not-formed

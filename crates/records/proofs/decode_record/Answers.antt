@@ -1,6 +1,5 @@
 -- `decode_record` gives `decoded_at`: it decodes the bytes that it reads.
 use Rattle.records.specs.Decode.{decoded_at}
-use borrow.Author.Rules.{rules}
 use Rattle.records.proofs.decode_record.Goals as goal
 
 pub returns : goal.returns

@@ -1,5 +1,4 @@
 -- `inside` gives `inside_b`: each kind of figure by its own test.
-use borrow.Author.Rules.{rules}
 use Rattle.records.proofs.inside.Goals as goal
 
 pub returns-in-Dot : goal.returns-in-Dot

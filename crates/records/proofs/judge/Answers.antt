@@ -1,7 +1,6 @@
 -- `judge` gives `judged`: one law of DecodeLaws for each way out.
 use mathlib.Core.Path.{sym, ◌∙◌}
 use Rattle.records.proofs.DecodeLaws.{stays_refused, stays_good, falls_outside}
-use borrow.Author.Rules.{rules}
 use Rattle.records.proofs.judge.Goals as goal
 
 pub returns-in_default : goal.returns-in_default

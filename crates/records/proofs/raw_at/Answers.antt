@@ -1,5 +1,4 @@
 -- `raw_at` gives `raw_at`: each field is one read at its place.
-use borrow.Author.Rules.{rules}
 use Rattle.records.proofs.raw_at.Goals as goal
 
 pub returns : goal.returns

@@ -1,10 +1,7 @@
 -- `check_records` gives `records_checked`: the slots left decide the answer as all the slots do, at each turn.
 use Prim.Native.Nat.{◌-◌, ◌*◌, ◌≤◌}
-use mathlib.Core.Path.{◌≡◌, sym, ◌∙◌}
-use borrow.Author.Rules.{rules}
+use mathlib.Core.Path.{◌≡◌}
 use Rattle.blocks.specs.Answer.{first_from}
-use Rattle.blocks.proofs.AnswerLaws.{first_start, first_go_on, first_end}
-use Rattle.refusals.proofs.RefusalLaws.{records_stop}
 use Rattle.refusals.specs.Refusals.{slot_answer, records_checked}
 use Rattle.refusals.proofs.check_records.Given as goal
 

@@ -1,6 +1,5 @@
 -- `frame_refusal` gives `frame_refusal`: 11, 12, 13 in this order.
 use Rattle.refusals.specs.Refusals.{frame_refusal}
-use borrow.Author.Rules.{rules}
 use Rattle.refusals.proofs.frame_refusal.Goals as goal
 
 pub returns : goal.returns

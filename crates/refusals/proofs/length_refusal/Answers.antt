@@ -1,5 +1,4 @@
 -- `length_refusal` gives `length_refusal`: its test is the definition's.
-use borrow.Author.Rules.{rules}
 use Rattle.refusals.proofs.length_refusal.Goals as goal
 
 pub returns : goal.returns

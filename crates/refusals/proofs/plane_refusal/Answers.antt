@@ -1,5 +1,4 @@
 -- `plane_refusal` gives `plane_refusal`: its test is the definition's.
-use borrow.Author.Rules.{rules}
 use Rattle.refusals.proofs.plane_refusal.Goals as goal
 
 pub returns : goal.returns

@@ -1,7 +1,6 @@
 -- `sheet_refusal` gives `sheet_refusal`: one law of RefusalLaws for each way out.
 use native.Mathlib.Omega.{arith}
 use Rattle.refusals.proofs.RefusalLaws.{framed, way_frame, way_checked}
-use borrow.Author.Rules.{rules}
 use Rattle.refusals.proofs.sheet_refusal.Goals as goal
 
 pub returns-then-f-ne0 : goal.returns-then-f-ne0

@@ -1,5 +1,4 @@
 -- `slot_decoded` gives `slot_decoded`: what is decoded is judged.
-use borrow.Author.Rules.{rules}
 use Rattle.refusals.proofs.slot_decoded.Goals as goal
 
 pub returns : goal.returns

@@ -1,8 +1,6 @@
 -- `slot_refusal` gives `slot_refusal`: an unused slot has none.
 use mathlib.Core.Path.{sym, ◌∙◌}
-use borrow.Author.Tests.{not-true, not-false}
 use Rattle.refusals.proofs.RefusalLaws.{not_refused, number_is}
-use borrow.Author.Rules.{rules}
 use Rattle.refusals.proofs.slot_refusal.Goals as goal
 
 pub returns-then-not-used : goal.returns-then-not-used

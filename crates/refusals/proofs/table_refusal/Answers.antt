@@ -1,5 +1,4 @@
 -- `table_refusal` gives `table_refusal`: its test is the definition's.
-use borrow.Author.Rules.{rules}
 use Rattle.refusals.proofs.table_refusal.Goals as goal
 
 pub returns : goal.returns

@@ -1,5 +1,4 @@
 -- `used` gives `used_b`: the count is the block's third byte.
-use borrow.Author.Rules.{rules}
 use Rattle.refusals.proofs.used.Goals as goal
 
 pub returns : goal.returns

@@ -2,7 +2,6 @@
 use native.Mathlib.Omega.{arith}
 use Rattle.registers.specs.Size.{arc_cycles_of}
 use borrow.Author.Tests.{eq-eqb, ne_eqb}
-use borrow.Author.Rules.{rules}
 use Rattle.registers.proofs.arc_cycles_of.Goals as goal
 
 pub returns-then-f : goal.returns-then-f

@@ -1,6 +1,5 @@
 -- `buffer_fits` is the definition, by the mode; in write mode the test of all sixteen is enough.
 use Rattle.registers.proofs.BufferLaws.{whole_enough}
-use borrow.Author.Rules.{rules}
 use Rattle.registers.proofs.buffer_fits.Goals as goal
 
 pub returns-in-Write : goal.returns-in-Write

@@ -1,7 +1,6 @@
 -- `bytes_fit` is the definition in read mode: where all sixteen are bytes the count alone is left to ask.
 use Rattle.registers.proofs.BufferLaws.{bytes_enough}
 use mathlib.Core.Path.{sym, ◌∙◌}
-use borrow.Author.Rules.{rules}
 use Rattle.registers.proofs.bytes_fit.Goals as goal
 
 pub returns-then-entries_fit : goal.returns-then-entries_fit

@@ -1,5 +1,4 @@
 -- `cycles_left` is the definition, case by case.
-use borrow.Author.Rules.{rules}
 use Rattle.registers.proofs.cycles_left.Goals as goal
 
 pub returns-in-Figure : goal.returns-in-Figure

@@ -1,7 +1,6 @@
 -- `dots_of` is the definition: one case of it for each way out.
 use Rattle.registers.specs.Size.{dots_of}
 use borrow.Author.Tests.{eq-eqb, ne_eqb}
-use borrow.Author.Rules.{rules}
 use Rattle.registers.proofs.dots_of.Goals as goal
 
 pub returns-then-f : goal.returns-then-f

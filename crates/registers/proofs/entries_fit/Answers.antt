@@ -1,11 +1,7 @@
 -- `entries_fit` tests one entry a turn; those passed and what is left to test decide.
 use Rattle.registers.proofs.BufferLaws.{fit_starts, fit_fails, fit_goes_on, fit_ends}
-use Rattle.registers.specs.Sound.{all_below}
 use borrow.Author.Rules.{rules}
-use lib.ListN.{take, drop}
-use mathlib.Core.Bool.{◌&&◌}
-use Prim.Native.Nat.{◌≤◌, ◌-◌}
-use mathlib.Core.Path.{◌≡◌, ◌∙◌, sym}
+use mathlib.Core.Path.{◌∙◌, sym}
 use Rattle.registers.proofs.entries_fit.Goals as goal
 use Rattle.registers.proofs.entries_fit.Goals.{then-i-n, else-i-n}
 
@@ -16,8 +12,9 @@ pub loop-i-preserved : goal.loop-i-preserved
 loop-i-preserved c = (
   search rules,
   c.loop-i.invariant.1 ∙ elim c.if-i-n.branch [
-    then-i-n w ↦ fit_fails _ _ _ c.loop-i.fit c.loop-i.i (search rules) w.if-i-n.true ∙ (rw w.fit-is)
-    | else-i-n w ↦ fit_goes_on _ _ _ c.loop-i.fit c.loop-i.i (search rules) w.if-i-n.false ∙ (rw w.fit-is) ],
+    | then-i-n w ↦ fit_fails _ _ _ c.loop-i.fit c.loop-i.i (search rules) w.if-i-n.true ∙ (rw w.fit-is)
+    | else-i-n w ↦ fit_goes_on _ _ _ c.loop-i.fit c.loop-i.i (search rules) w.if-i-n.false ∙ (rw w.fit-is)
+  ],
 )
 
 pub returns : goal.returns

@@ -1,7 +1,6 @@
 -- `factor_of` is the definition, word for word.
 use Rattle.registers.specs.Size.{factor_of}
 use mathlib.Core.Path.{refl}
-use borrow.Author.Rules.{rules}
 use Rattle.registers.proofs.factor_of.Goals as goal
 
 pub returns : goal.returns

@@ -1,7 +1,6 @@
 -- `oldest_of` is the definition, word for word.
 use Rattle.registers.specs.Buffer.{oldest}
 use mathlib.Core.Path.{refl}
-use borrow.Author.Rules.{rules}
 use Rattle.registers.proofs.oldest_of.Goals as goal
 
 pub returns : goal.returns

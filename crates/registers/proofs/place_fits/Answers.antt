@@ -1,5 +1,4 @@
 -- `place_fits` is the definition, case by case.
-use borrow.Author.Rules.{rules}
 use Rattle.registers.proofs.place_fits.Goals as goal
 
 pub returns-in-Figure : goal.returns-in-Figure

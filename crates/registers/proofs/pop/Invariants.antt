@@ -1,10 +1,6 @@
 -- `pop` is the definition: the last entry leaves an empty buffer, another moves the rest one place on, one entry a turn.
-use Rattle.registers.proofs.BufferLaws.{moved, moved_starts, moved_on, popped_more}
-use Rattle.registers.specs.Buffer.{popped}
+use Rattle.registers.proofs.BufferLaws.{moved}
 use Prim.Native.Nat.{◌≤◌, ◌-◌}
-use lib.ListN.{length}
-use borrow.Author.Tests.{le-leb}
-use borrow.Author.Rules.{rules}
 use mathlib.Core.Path.{◌≡◌}
 use Rattle.registers.proofs.pop.Given as goal
 

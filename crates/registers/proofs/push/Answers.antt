@@ -1,7 +1,6 @@
 -- `push` is the definition: room or none.
 use Rattle.registers.specs.Buffer.{pushed}
 use borrow.Author.Tests.{lt-ltb, le-ltb}
-use borrow.Author.Rules.{rules}
 use Rattle.registers.proofs.push.Goals as goal
 
 pub returns-then-at-lt16 : goal.returns-then-at-lt16

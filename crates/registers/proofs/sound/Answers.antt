@@ -1,6 +1,5 @@
 -- `sound` is the definition, of what its calls ensure.
 use Rattle.registers.specs.Sound.{sound_b}
-use borrow.Author.Rules.{rules}
 use Rattle.registers.proofs.sound.Goals as goal
 
 pub returns : goal.returns

@@ -1,7 +1,5 @@
 -- `replay` is `replayed`: the run's two tests in their order, else the events that are looked at.
 use mathlib.Core.Path.{sym, ◌∙◌}
-use borrow.Author.Tests.{not-true, not-false}
-use borrow.Author.Rules.{rules}
 use Rattle.replaying.proofs.ListLaws.{looked_long, looked_few, way_unsound, way_mislong, way_done}
 use Rattle.replaying.proofs.replay.Goals as goal
 

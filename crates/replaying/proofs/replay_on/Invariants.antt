@@ -1,13 +1,9 @@
 -- `replay_on`: after k events, what is left to do from here, with the units so far, is what was to do from the start. Both ways of a turn
 -- keep that: an entry that its port takes, and a run.
 use Prim.Native.Nat.{◌-◌}
-use native.Mathlib.Omega.{arith}
-use mathlib.Core.Path.{refl}
 use lib.ListN.{length}
-use borrow.Author.Rules.{rules}
 use Rattle.registers.specs.State.{state}
-use Rattle.replaying.proofs.EventLaws.{entry_done, run_done_law}
-use Rattle.replaying.proofs.ListLaws.{Going, behind_none, goes_out, units_most, goes_no_further, goes_on}
+use Rattle.replaying.proofs.ListLaws.{Going}
 use Rattle.replaying.proofs.replay_on.Given as goal
 
 abbrev pub invariant-loop-k : goal.invariant-loop-k

@@ -1,5 +1,4 @@
 -- `run_event` is `runs_of`: the same test, and then the run or the runs.
-use borrow.Author.Rules.{rules}
 use Rattle.replaying.proofs.EventLaws.{units_run_law, idle_run}
 use Rattle.replaying.proofs.run_event.Goals as goal
 

@@ -1,11 +1,9 @@
 -- `bytes_right` gives `bytes_b`: the digits still to be read decide, at each turn.
 use borrow.Author.Rules.{rules}
 use borrow.Author.Tests.{eq-eqb}
-use lib.ListN.{length, drop}
-use mathlib.Core.Path.{◌≡◌, sym, ◌∙◌}
-use Prim.Native.Nat.{◌-◌, ◌≤◌}
+use mathlib.Core.Path.{sym, ◌∙◌}
 use Rattle.script.proofs.Laws.{bytes_odd, bytes_start, digits_fail, digits_go_on, digits_end}
-use Rattle.script.specs.Digits.{digits_b, bytes_b}
+use Rattle.script.specs.Digits.{bytes_b}
 use Rattle.script.proofs.bytes_right.Goals as goal
 
 pub returns-then-s-eq0 : goal.returns-then-s-eq0

@@ -1,10 +1,7 @@
 -- `bytes_right` gives `bytes_b`: the digits still to be read decide, at each turn.
-use borrow.Author.Rules.{rules}
-use borrow.Author.Tests.{eq-eqb}
 use lib.ListN.{length, drop}
-use mathlib.Core.Path.{◌≡◌, sym, ◌∙◌}
+use mathlib.Core.Path.{◌≡◌}
 use Prim.Native.Nat.{◌-◌, ◌≤◌}
-use Rattle.script.proofs.Laws.{bytes_odd, bytes_start, digits_fail, digits_go_on, digits_end}
 use Rattle.script.specs.Digits.{digits_b, bytes_b}
 use Rattle.script.proofs.bytes_right.Given as goal
 

@@ -1,6 +1,5 @@
 -- `digit_of` gives `digit_of`: the same tests.
 use borrow.Author.Tests.{lt-ltb, le-ltb}
-use borrow.Author.Rules.{rules}
 use Rattle.script.specs.Digits.{digit_of}
 use Rattle.script.proofs.digit_of.Goals as goal
 

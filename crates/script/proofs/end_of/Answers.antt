@@ -1,10 +1,7 @@
 -- `end_of` gives `span_of`: what is left adds to what is passed.
 use borrow.Author.Rules.{rules}
-use lib.ListN.{length, drop}
-use mathlib.Core.Path.{◌≡◌, sym, ◌∙◌}
-use Prim.Native.Nat.{◌-◌, ◌+◌, ◌≤◌}
+use mathlib.Core.Path.{sym, ◌∙◌}
 use Rattle.script.proofs.Laws.{span_starts, span_here, span_goes_on, span_ends}
-use Rattle.script.specs.Line.{span_of}
 use Rattle.script.proofs.end_of.Goals as goal
 
 pub loop-i-init : goal.loop-i-init

@@ -1,9 +1,7 @@
 -- `end_of` gives `span_of`: what is left adds to what is passed.
-use borrow.Author.Rules.{rules}
 use lib.ListN.{length, drop}
-use mathlib.Core.Path.{◌≡◌, sym, ◌∙◌}
+use mathlib.Core.Path.{◌≡◌}
 use Prim.Native.Nat.{◌-◌, ◌+◌, ◌≤◌}
-use Rattle.script.proofs.Laws.{span_starts, span_here, span_goes_on, span_ends}
 use Rattle.script.specs.Line.{span_of}
 use Rattle.script.proofs.end_of.Given as goal
 

@@ -1,7 +1,6 @@
 -- `fields` gives `fields_of`: the same test, on what the calls answer.
 use lib.Seq.{length-take-le}
 use mathlib.Core.Path.{sym, ◌∙◌}
-use borrow.Author.Rules.{rules}
 use Rattle.script.proofs.LineLaws.{fields_none, fields_one, fields_two}
 use Rattle.script.proofs.fields.Goals as goal
 

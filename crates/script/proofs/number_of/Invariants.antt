@@ -1,10 +1,7 @@
 -- `number_of` gives `number_of`: the digits still to be read decide, at each turn.
-use borrow.Author.Rules.{rules}
-use borrow.Author.Tests.{eq-eqb}
 use lib.ListN.{length, drop}
-use mathlib.Core.Path.{◌≡◌, sym, ◌∙◌}
+use mathlib.Core.Path.{◌≡◌}
 use Prim.Native.Nat.{◌-◌, ◌≤◌}
-use Rattle.script.proofs.Laws.{number_starts, number_fails, number_goes_on, number_ends}
 use Rattle.script.specs.Digits.{number_from, number_of}
 use Rattle.script.proofs.number_of.Given as goal
 

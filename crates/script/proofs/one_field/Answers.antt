@@ -1,5 +1,4 @@
 -- `one_field` gives `one_of`: the same cases.
-use borrow.Author.Rules.{rules}
 use Rattle.script.specs.Line.{one_of}
 use Rattle.script.proofs.one_field.Goals as goal
 

@@ -2,7 +2,6 @@
 use lib.ListN.{get_or-eq_default}
 use native.Mathlib.Omega.{arith}
 use borrow.Author.Tests.{eq-eqb, ne_eqb}
-use borrow.Author.Rules.{rules}
 use Rattle.script.specs.Line.{padded_b}
 use Rattle.script.proofs.padded.Goals as goal
 

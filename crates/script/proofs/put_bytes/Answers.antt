@@ -1,9 +1,6 @@
 -- `put_bytes` gives `bytes_put`: what is left to be put decides, at each turn.
-use mathlib.Core.Path.{◌≡◌, sym, ◌∙◌}
+use mathlib.Core.Path.{sym, ◌∙◌}
 use borrow.Author.Rules.{rules}
-use lib.ListN.{length, drop}
-use Prim.Native.Nat.{◌-◌, ◌≤◌}
-use Rattle.script.specs.Digits.{bytes_put}
 use Rattle.script.proofs.BytesLaws.{put_full, put_goes_on, put_ends}
 use Rattle.script.proofs.put_bytes.Goals as goal
 

@@ -1,6 +1,5 @@
 -- `read_line` gives `line_of`: the same tests.
 use borrow.Author.Tests.{eq-eqb, ne_eqb, lt-ltb, le-ltb}
-use borrow.Author.Rules.{rules}
 use Rattle.script.proofs.LineLaws.{to_end}
 use Rattle.script.specs.Line.{line_of}
 use Rattle.script.proofs.read_line.Goals as goal

@@ -1,5 +1,4 @@
 -- `two_fields` gives `two_of`: the same cases.
-use borrow.Author.Rules.{rules}
 use Rattle.script.specs.Line.{two_of, second_of}
 use Rattle.script.proofs.two_fields.Goals as goal
 

@@ -1,6 +1,5 @@
 -- `with_digit` gives `more`: the same test.
 use borrow.Author.Tests.{le-leb, lt-leb}
-use borrow.Author.Rules.{rules}
 use Rattle.script.specs.Digits.{more}
 use Rattle.script.proofs.with_digit.Goals as goal
 

@@ -1,5 +1,4 @@
 -- `at_once` makes the five tests of `at_once_b`.
-use borrow.Author.Rules.{rules}
 use Rattle.sends.proofs.at_once.Goals as goal
 
 pub returns : goal.returns

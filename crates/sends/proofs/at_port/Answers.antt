@@ -1,6 +1,5 @@
 -- `at_port` writes an entry to its port: the two ports of `written`, with the byte of the entry.
 use Rattle.sending.proofs.PortLaws.{to_parameter, to_command}
-use borrow.Author.Rules.{rules}
 use Rattle.sends.proofs.at_port.Goals as goal
 
 pub returns-then-e-lt256 : goal.returns-then-e-lt256

@@ -1,6 +1,5 @@
 -- `send_one` is the list of one entry: what its port answers, and, where it takes it, the run from there.
 use Rattle.sends.proofs.SendLaws.{sent_not, sent_one}
-use borrow.Author.Rules.{rules}
 use Rattle.sends.proofs.send_one.Goals as goal
 
 pub returns-then-a-ne0 : goal.returns-then-a-ne0

@@ -1,5 +1,4 @@
 -- `to_port` gives what the port leaves.
-use borrow.Author.Rules.{rules}
 use Rattle.sends.proofs.to_port.Goals as goal
 
 pub returns : goal.returns

@@ -1,7 +1,6 @@
 -- `begin` is the definition, by the command.
 use Rattle.settings.proofs.CommandLaws.{settled_by, nothing_set}
 use mathlib.Core.Path.{refl}
-use borrow.Author.Rules.{rules}
 use borrow.Enum.Refused.{opened}
 use Rattle.settings.proofs.begin.Goals as goal
 

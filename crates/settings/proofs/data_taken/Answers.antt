@@ -1,13 +1,9 @@
 -- `data_taken`: what is left to take from here, with the entries so far, is what was to take from the start; a byte leaves its set
 -- half-sent (`half_sent`) or completes it (`completed`), and the loop ends behind the last entry or at a command.
-use Prim.Native.Nat.{ℕ, ◌-◌, ◌≤◌}
+use Prim.Native.Nat.{◌-◌}
 use native.Mathlib.Omega.{arith}
-use mathlib.Core.List.{List}
-use mathlib.Core.Path.{◌≡◌, refl, sym, ap, ◌∙◌}
-use lib.ListN.{length, drop}
-use borrow.Author.Rules.{rules}
-use Rattle.dots.specs.declared.Cursor.{Cursor}
-use Rattle.registers.specs.declared.Transfer.{Transfer}
+use mathlib.Core.Path.{refl, sym, ap, ◌∙◌}
+use lib.ListN.{drop}
 use Rattle.settings.specs.declared.Settings.{Settings}
 use Rattle.settings.specs.Settings.{settled, data_all}
 use Rattle.settings.proofs.DataLaws.{beyond, within, in_progress, none_before, one_before, all_before, half_sent, completed}
@@ -38,12 +34,13 @@ loop-at-preserved c =
       rest = l.invariant.rest
           ∙ ap (beyond (l.at - a.k))
           (elim c.if-half.branch [
-            then-half w ↦
-              half_sent _ a.from _ _ _ _ _ _ _ more byte (sym c.half.ensures ∙ w.if-half.true) w.mem-is w.c-is w.next-is w.low-is
+            | then-half w ↦
+                half_sent _ a.from _ _ _ _ _ _ _ more byte (sym c.half.ensures ∙ w.if-half.true) w.mem-is w.c-is w.next-is w.low-is
             | else-half w ↦ completed _ a.from _ _ _ _ _ _ _ more byte _ (sym c.half.ensures ∙ w.if-half.false)
-              c.bit_mapped-mapped.ensures w.set_pattern.ensures
-              (w.mem-is ∙ w.cycle.ensures)
-              (w.c-is ∙ w.word_move-c.ensures) w.next-is w.low-is ])
+                c.bit_mapped-mapped.ensures w.set_pattern.ensures
+                (w.mem-is ∙ w.cycle.ensures)
+                (w.c-is ∙ w.word_move-c.ensures) w.next-is w.low-is
+          ])
           ∙ one_before _ _ _ l.invariant.past;
     }
 
@@ -61,6 +58,7 @@ returns c =
     (in_progress _ a.from c.requires _ _ _)
     ∙ all_before _ (within a.t a.from l.c l.next l.low) _
     (elim c.loop-at-test.branch [
-      else-loop-at-test w ↦ data_ended _ a.from _ _ _ _ _ _ _ w.loop-at-test.false
-      | then-loop-at-test+then-e-ge256 w ↦ data_broken _ a.from _ _ _ _ _ _ _ w.loop-at-test.true w.if-e-ge256.true ])
+      | else-loop-at-test w ↦ data_ended _ a.from _ _ _ _ _ _ _ w.loop-at-test.false
+      | then-loop-at-test+then-e-ge256 w ↦ data_broken _ a.from _ _ _ _ _ _ _ w.loop-at-test.true w.if-e-ge256.true
+    ])
     ∙ sym l.invariant.rest

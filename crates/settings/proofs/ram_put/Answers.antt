@@ -1,6 +1,5 @@
 -- `ram_put` is the definition: a place, or a surplus byte.
 use borrow.Author.Tests.{lt-ltb, le-ltb}
-use borrow.Author.Rules.{rules}
 use Rattle.settings.proofs.ram_put.Goals as goal
 
 pub returns-then-place-lt16 : goal.returns-then-place-lt16

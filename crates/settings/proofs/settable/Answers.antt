@@ -1,6 +1,5 @@
 -- `settable` is the definition: a parameter by the command in progress, a command by itself.
 use Rattle.settings.proofs.CommandLaws.{parameter_settable, command_settable}
-use borrow.Author.Rules.{rules}
 use Rattle.settings.proofs.settable.Goals as goal
 
 pub returns-then-e-lt256 : goal.returns-then-e-lt256

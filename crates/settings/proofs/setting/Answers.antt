@@ -1,6 +1,5 @@
 -- `setting` is the definition, by the command.
 use Rattle.settings.proofs.CommandLaws.{not_setting}
-use borrow.Author.Rules.{rules}
 use borrow.Enum.Refused.{opened}
 use Rattle.settings.proofs.setting.Goals as goal
 

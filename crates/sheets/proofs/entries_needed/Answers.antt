@@ -1,11 +1,8 @@
 -- `entries_needed` counts PITCH P and the figures' entries: what is counted and what the slots left take are the whole, at each turn.
-use Prim.Native.Nat.{ℕ, ◌+◌, ◌-◌, ◌*◌, ◌≤◌}
+use Prim.Native.Nat.{◌+◌}
 use native.Mathlib.Omega.{arith}
-use mathlib.Core.List.{List}
-use mathlib.Core.Path.{◌≡◌, sym, ap, ◌∙◌}
-use borrow.Author.Rules.{rules}
-use Rattle.records.specs.declared.Room.{Room}
-use Rattle.sheets.specs.Slots.{sized, figures, figures_from}
+use mathlib.Core.Path.{sym, ap, ◌∙◌}
+use Rattle.sheets.specs.Slots.{sized}
 use Rattle.sheets.proofs.SlotLaws.{slot_small, sized_append, figures_start, count_goes_on, count_ends}
 use Rattle.sheets.proofs.entries_needed.Goals as goal
 

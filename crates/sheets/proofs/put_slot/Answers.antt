@@ -1,8 +1,6 @@
 -- `put_slot` puts the entries of `slot_figures`: none, or one record's.
 use mathlib.Core.Path.{sym, ◌∙◌}
-use borrow.Author.Tests.{not-true, not-false}
 use Rattle.sheets.proofs.SlotLaws.{none, bad, good, put_none, put_one}
-use borrow.Author.Rules.{rules}
 use Rattle.sheets.proofs.put_slot.Goals as goal
 
 pub returns-then-not-used : goal.returns-then-not-used

@@ -1,8 +1,6 @@
 -- `slot_size` gives the size of `slot_figures`: none, or one record.
 use mathlib.Core.Path.{sym, ◌∙◌}
-use borrow.Author.Tests.{not-true, not-false}
 use Rattle.sheets.proofs.SlotLaws.{none, bad, good, size_none, size_one}
-use borrow.Author.Rules.{rules}
 use Rattle.sheets.proofs.slot_size.Goals as goal
 
 pub returns-then-not-used : goal.returns-then-not-used

@@ -2,7 +2,6 @@
 use native.Mathlib.Omega.{arith}
 use Rattle.refusals.proofs.RefusalLaws.{sheet_framed}
 use Rattle.sheets.proofs.SheetLaws.{way_refused, way_short, way_done}
-use borrow.Author.Rules.{rules}
 use Rattle.sheets.proofs.translate.Goals as goal
 
 pub returns-then-refusal-ne0 : goal.returns-then-refusal-ne0

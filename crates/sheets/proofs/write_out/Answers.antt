@@ -1,13 +1,6 @@
 -- `write_out` places the translation: what is still to be placed, from where the loop stands, makes the same output at each turn.
-use Prim.Native.Nat.{ℕ, ◌+◌, ◌-◌, ◌*◌, ◌≤◌}
 use native.Mathlib.Omega.{arith}
-use mathlib.Core.List.{List}
-use mathlib.Core.Path.{◌≡◌, refl, sym, ◌∙◌}
-use lib.ListN.{length}
-use borrow.Author.Rules.{rules}
-use Rattle.records.specs.declared.Room.{Room}
-use Rattle.entries.specs.Entries.{placed}
-use Rattle.sheets.specs.Slots.{figures, figures_from, translated}
+use mathlib.Core.Path.{refl, sym, ◌∙◌}
 use Rattle.sheets.proofs.SlotLaws.{slot_small, write_starts, write_goes_on, write_ends, pitch_first}
 use Rattle.sheets.proofs.write_out.Goals as goal
 

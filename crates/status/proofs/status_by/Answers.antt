@@ -1,7 +1,6 @@
 -- `status_by` is the sum of its bits; it fits a byte.
 use Rattle.status.proofs.StatusLaws.{one_le}
 use native.Mathlib.Omega.{arith}
-use borrow.Author.Rules.{rules}
 use Rattle.status.proofs.status_by.Goals as goal
 
 pub overflow_cast-result : goal.overflow_cast-result

@@ -1,6 +1,5 @@
 -- `status_of` is the definition, of what its calls ensure.
 use Rattle.status.specs.Status.{status_of}
-use borrow.Author.Rules.{rules}
 use Rattle.status.proofs.status_of.Goals as goal
 
 pub returns : goal.returns

@@ -1,5 +1,4 @@
 -- `arc_dots` walks as the cursor does, either way.
-use borrow.Author.Rules.{rules}
 use Rattle.sweeps.proofs.arc_dots.Goals as goal
 
 pub returns-then-at-ge4194304 : goal.returns-then-at-ge4194304

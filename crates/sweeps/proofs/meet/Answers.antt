@@ -1,6 +1,5 @@
 -- `meet` is the definition, by whether the cycle is the first.
 use borrow.Author.Tests.{eq-eqb, ne_eqb}
-use borrow.Author.Rules.{rules}
 use Rattle.sweeps.proofs.meet.Goals as goal
 
 pub returns-then-k-eq0 : goal.returns-then-k-eq0

@@ -1,14 +1,7 @@
 -- `plain_arc`: what is left to do from here is what was to do from the start (`sweep_on`).
-use mathlib.Core.Path.{◌≡◌, refl, sym, ◌∙◌}
-use mathlib.Core.List.{List}
-use Prim.Native.Nat.{ℕ, ◌-◌}
+use mathlib.Core.Path.{refl, sym, ◌∙◌}
 use native.Mathlib.Omega.{arith}
-use lib.ListN.{length}
-use Rattle.arcs.specs.declared.Moving.{Moving}
-use Rattle.walks.specs.declared.Brush.{Brush}
-use Rattle.sweeps.specs.Sweep.{arc_walk}
 use Rattle.sweeps.proofs.SweepLaws.{sweep_on, sweep_end}
-use borrow.Author.Rules.{rules}
 use Rattle.sweeps.proofs.plain_arc.Goals as goal
 
 pub loop-k-init : goal.loop-k-init

@@ -1,14 +1,8 @@
 -- `plain_arc`: what is left to do from here is what was to do from the start (`sweep_on`).
-use mathlib.Core.Path.{◌≡◌, refl, sym, ◌∙◌}
-use mathlib.Core.List.{List}
-use Prim.Native.Nat.{ℕ, ◌-◌}
-use native.Mathlib.Omega.{arith}
+use mathlib.Core.Path.{◌≡◌}
+use Prim.Native.Nat.{◌-◌}
 use lib.ListN.{length}
-use Rattle.arcs.specs.declared.Moving.{Moving}
-use Rattle.walks.specs.declared.Brush.{Brush}
 use Rattle.sweeps.specs.Sweep.{arc_walk}
-use Rattle.sweeps.proofs.SweepLaws.{sweep_on, sweep_end}
-use borrow.Author.Rules.{rules}
 use Rattle.sweeps.proofs.plain_arc.Given as goal
 
 abbrev pub invariant-loop-k : goal.invariant-loop-k

@@ -1,5 +1,4 @@
 -- `cycles_on` is the definition, of what its call ensures.
-use borrow.Author.Rules.{rules}
 use Rattle.units.proofs.cycles_on.Goals as goal
 
 pub returns : goal.returns

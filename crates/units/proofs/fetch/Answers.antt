@@ -1,6 +1,5 @@
 -- `fetch` is the definition, of what its calls ensure (`fetched_by`).
 use Rattle.units.proofs.UnitLaws.{fetched_by}
-use borrow.Author.Rules.{rules}
 use Rattle.units.proofs.fetch.Goals as goal
 
 pub returns : goal.returns

@@ -1,7 +1,6 @@
 -- `folded_right` is the definition, word for word.
 use Rattle.units.specs.Run.{length_b}
 use mathlib.Core.Path.{refl}
-use borrow.Author.Rules.{rules}
 use Rattle.units.proofs.folded_right.Goals as goal
 
 pub returns : goal.returns

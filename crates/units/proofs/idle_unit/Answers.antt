@@ -1,6 +1,5 @@
 -- `idle_unit` is the definition: nothing waits, an entry waits, or the mode is read.
 use Rattle.units.proofs.UnitLaws.{none_waits, one_waits, reads_on}
-use borrow.Author.Rules.{rules}
 use Rattle.units.proofs.idle_unit.Goals as goal
 
 pub returns-then-r-eq0 : goal.returns-then-r-eq0

@@ -1,6 +1,5 @@
 -- `length_right` is the definition, wiring by wiring.
 use Rattle.units.specs.Run.{length_b}
-use borrow.Author.Rules.{rules}
 use Rattle.units.proofs.length_right.Goals as goal
 
 pub returns-in-Folded : goal.returns-in-Folded

@@ -1,7 +1,6 @@
 -- `reason` is the definition, by what is in progress.
 use Rattle.units.specs.Run.{reason_of}
 use mathlib.Core.Path.{sym, ◌∙◌}
-use borrow.Author.Rules.{rules}
 use Rattle.units.proofs.reason.Goals as goal
 
 pub returns-then-room : goal.returns-then-room

@@ -1,8 +1,6 @@
 -- `run` refuses an unsound set and a wrong length, in this order, and else runs.
 use Rattle.units.proofs.RunLaws.{run_unsound, run_mislong, run_runs}
-use borrow.Author.Tests.{not-true, not-false}
 use mathlib.Core.Path.{sym, ◌∙◌}
-use borrow.Author.Rules.{rules}
 use Rattle.units.proofs.run.Goals as goal
 
 pub returns-then-not-sound : goal.returns-then-not-sound

@@ -3,15 +3,9 @@
 use Rattle.units.proofs.AheadLaws.{figure_ahead, arc_ahead, character_ahead, goes_ahead}
 use Rattle.units.proofs.RunLaws.{run_starts, run_ends, run_stops, run_goes_on}
 use Rattle.units.proofs.UnitLaws.{unit_by_law}
-use Rattle.units.specs.Run.{run_from}
-use Rattle.registers.specs.State.{state}
-use Rattle.registers.specs.declared.Registers.{Registers}
 use borrow.Author.Rules.{rules}
-use lib.ListN.{length}
-use mathlib.Core.Path.{◌≡◌, refl, sym, ◌∙◌}
-use mathlib.Core.List.{List}
+use mathlib.Core.Path.{refl, sym, ◌∙◌}
 use native.Mathlib.Omega.{arith}
-use Prim.Native.Nat.{ℕ, ◌-◌, ◌≤◌}
 use Rattle.units.proofs.run_on.Goals as goal
 
 pub loop-n-init : goal.loop-n-init

@@ -1,17 +1,10 @@
 -- `run_on`: after n units, what is left to do from here is what was to do from the start; many units at once are as many (`figure_ahead`,
 -- `arc_ahead`, `character_ahead`).
-use Rattle.units.proofs.AheadLaws.{figure_ahead, arc_ahead, character_ahead, goes_ahead}
-use Rattle.units.proofs.RunLaws.{run_starts, run_ends, run_stops, run_goes_on}
-use Rattle.units.proofs.UnitLaws.{unit_by_law}
 use Rattle.units.specs.Run.{run_from}
 use Rattle.registers.specs.State.{state}
-use Rattle.registers.specs.declared.Registers.{Registers}
-use borrow.Author.Rules.{rules}
 use lib.ListN.{length}
-use mathlib.Core.Path.{◌≡◌, refl, sym, ◌∙◌}
-use mathlib.Core.List.{List}
-use native.Mathlib.Omega.{arith}
-use Prim.Native.Nat.{ℕ, ◌-◌, ◌≤◌}
+use mathlib.Core.Path.{◌≡◌}
+use Prim.Native.Nat.{◌-◌, ◌≤◌}
 use Rattle.units.proofs.run_on.Given as goal
 
 abbrev pub invariant-loop-n : goal.invariant-loop-n

@@ -1,6 +1,5 @@
 -- `waiting_reason` is the definition, by the mode.
 use borrow.Author.Tests.{eq-eqb, ne_eqb}
-use borrow.Author.Rules.{rules}
 use Rattle.units.proofs.waiting_reason.Goals as goal
 
 pub returns-then-b-eq0 : goal.returns-then-b-eq0

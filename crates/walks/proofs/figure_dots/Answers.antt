@@ -1,6 +1,5 @@
 -- `figure_dots` goes one of three ways, which walk alike (`dots_by_bits`).
 use Rattle.walks.proofs.BitLaws.{dots_by_bits}
-use borrow.Author.Rules.{rules}
 use Rattle.walks.proofs.figure_dots.Goals as goal
 
 pub returns-then-at-ge4194304 : goal.returns-then-at-ge4194304

@@ -4,7 +4,6 @@ use Prim.Native.Nat.{◌-◌}
 use Rattle.dots.specs.declared.Cursor.{Cursor}
 use Rattle.walks.specs.Walk.{row_walk}
 use Rattle.walks.proofs.BitLaws.{row_by_bits}
-use borrow.Author.Rules.{rules}
 use Rattle.walks.proofs.row_dots.Goals as goal
 
 pub row_bits-requires : goal.row_bits-requires

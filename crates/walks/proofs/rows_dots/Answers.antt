@@ -4,7 +4,6 @@ use Prim.Native.Nat.{◌-◌}
 use Rattle.dots.specs.declared.Cursor.{Cursor}
 use Rattle.walks.specs.Walk.{rows_walk}
 use Rattle.walks.proofs.BitLaws.{row_by_bits}
-use borrow.Author.Rules.{rules}
 use Rattle.walks.proofs.rows_dots.Goals as goal
 
 pub rows_bits-requires : goal.rows_bits-requires

@@ -1,6 +1,5 @@
 -- `filled` is the definition, by the type.
 use Rattle.dots.proofs.BitLaws.{bit_zero}
-use borrow.Author.Rules.{rules}
 use Rattle.wdat.proofs.filled.Goals as goal
 
 pub returns-in-Word : goal.returns-in-Word

@@ -1,5 +1,4 @@
 -- `half` is the definition, by the type.
-use borrow.Author.Rules.{rules}
 use Rattle.wdat.proofs.half.Goals as goal
 
 pub returns-in-Word : goal.returns-in-Word

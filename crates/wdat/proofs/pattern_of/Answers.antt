@@ -1,5 +1,4 @@
 -- `pattern_of` is the definition, by the type.
-use borrow.Author.Rules.{rules}
 use Rattle.wdat.proofs.pattern_of.Goals as goal
 
 pub returns-in-Word : goal.returns-in-Word

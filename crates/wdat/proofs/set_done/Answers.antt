@@ -1,6 +1,5 @@
 -- `set_done` is the definition, of what its calls ensure.
 use Rattle.wdat.specs.Wdat.{set_done}
-use borrow.Author.Rules.{rules}
 use Rattle.wdat.proofs.set_done.Goals as goal
 
 pub returns : goal.returns

@@ -1,5 +1,4 @@
 -- `set_pattern` is the definition, of what its calls ensure.
-use borrow.Author.Rules.{rules}
 use Rattle.wdat.proofs.set_pattern.Goals as goal
 
 pub returns-then-mapped : goal.returns-then-mapped

@@ -1,7 +1,6 @@
 -- `wdat_taken` is the definition: half-sent, or complete and its cycle made.
 use Rattle.wdat.proofs.WdatLaws.{wdat_half, wdat_whole}
 use mathlib.Core.Path.{sym, ◌∙◌}
-use borrow.Author.Rules.{rules}
 use Rattle.wdat.proofs.wdat_taken.Goals as goal
 
 pub returns-then-half : goal.returns-then-half

@@ -1,5 +1,4 @@
 -- `wiring_done` gives `wiring_done`: the register set is what `wired` makes of it.
-use borrow.Author.Rules.{rules}
 use Rattle.controls.proofs.fields.wiring_done.Goals as goal
 
 pub returns : goal.returns

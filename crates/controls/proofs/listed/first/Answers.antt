@@ -1,5 +1,4 @@
 -- `first` gives `first_fields`: each number is read off the registers.
-use borrow.Author.Rules.{rules}
 use Rattle.controls.proofs.listed.first.Goals as goal
 
 pub returns : goal.returns

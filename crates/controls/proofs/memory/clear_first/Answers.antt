@@ -1,5 +1,4 @@
 -- `clear_first` gives `cleared_first`: `clear` over the part that is in use.
-use borrow.Author.Rules.{rules}
 use Rattle.controls.proofs.MemoryLaws.{clears}
 use Rattle.controls.proofs.memory.clear_first.Goals as goal
 

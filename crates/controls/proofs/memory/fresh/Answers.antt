@@ -1,7 +1,5 @@
 -- `fresh` gives `fresh_done`: the same test.
-use borrow.Author.Rules.{rules}
 use mathlib.Core.Path.{sym, ◌∙◌}
-use borrow.Author.Tests.{not-true, not-false}
 use Rattle.controls.proofs.MemoryLaws.{length_wrong, made_fresh}
 use Rattle.controls.proofs.memory.fresh.Goals as goal
 

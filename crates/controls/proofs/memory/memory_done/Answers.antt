@@ -1,5 +1,4 @@
 -- `memory_done` gives `memory_done`: the same cases.
-use borrow.Author.Rules.{rules}
 use mathlib.Core.Path.{◌∙◌}
 use Rattle.controls.specs.Memory.{memory_done}
 use Rattle.controls.proofs.MemoryLaws.{runs, words_put}

@@ -1,5 +1,4 @@
 -- `run_within` gives `run_within`: a run over the part that is in use.
-use borrow.Author.Rules.{rules}
 use Rattle.controls.proofs.MemoryLaws.{ran_within}
 use Rattle.controls.proofs.memory.run_within.Goals as goal
 

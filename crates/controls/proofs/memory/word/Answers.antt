@@ -1,5 +1,4 @@
 -- `word` gives `word_done`: the same test.
-use borrow.Author.Rules.{rules}
 use Rattle.controls.proofs.MemoryLaws.{word_past, word_put}
 use Rattle.controls.proofs.memory.word.Goals as goal
 

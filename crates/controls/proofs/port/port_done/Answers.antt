@@ -1,6 +1,5 @@
 -- `port_done` gives `port_done`: the same cases, each with its port's answer.
 use Rattle.controls.specs.Port.{port_done}
-use borrow.Author.Rules.{rules}
 use Rattle.controls.proofs.port.port_done.Goals as goal
 
 pub returns-in-Command : goal.returns-in-Command

@@ -1,7 +1,5 @@
 -- `more_sheet` gives `more_sheet`: its two tests of the length are one of the sum.
-use borrow.Author.Rules.{rules}
 use mathlib.Core.Path.{sym, ◌∙◌}
-use borrow.Author.Tests.{not-true, not-false}
 use native.Mathlib.Omega.{arith}
 use Rattle.easel.proofs.PaperLaws.{sheet_long, sheet_wrong, sheet_more}
 use Rattle.easel.proofs.paper.more_sheet.Goals as goal

@@ -1,7 +1,5 @@
 -- `new_glyphs` gives `new_glyphs`: the same tests.
-use borrow.Author.Rules.{rules}
 use mathlib.Core.Path.{sym, ◌∙◌}
-use borrow.Author.Tests.{not-true, not-false}
 use Rattle.easel.proofs.PaperLaws.{glyphs_many, glyphs_wrong, glyphs_new}
 use Rattle.easel.proofs.paper.new_glyphs.Goals as goal
 

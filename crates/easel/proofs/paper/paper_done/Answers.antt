@@ -1,5 +1,4 @@
 -- `paper_done` gives `paper_done`: the same cases.
-use borrow.Author.Rules.{rules}
 use Rattle.easel.specs.Paper.{paper_done}
 use Rattle.easel.proofs.paper.paper_done.Goals as goal
 

@@ -1,6 +1,5 @@
 -- `sheet_of` gives `sheet_of`: the same test, and the part that `bytes_used` counts.
 use borrow.Author.Tests.{lt-ltb}
-use borrow.Author.Rules.{rules}
 use Rattle.easel.specs.Parts.{sheet_of}
 use Rattle.easel.proofs.PartLaws.{sheet_part}
 use Rattle.easel.proofs.paper.sheet_of.Goals as goal

@@ -1,5 +1,4 @@
 -- `table_of` gives `table_of`: the part that `bytes_used` counts.
-use borrow.Author.Rules.{rules}
 use Rattle.easel.proofs.paper.table_of.Goals as goal
 
 pub returns : goal.returns

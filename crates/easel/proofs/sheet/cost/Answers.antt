@@ -1,6 +1,5 @@
 -- `cost` tells `cost_told`: the call's answer, of the papers in use.
 use mathlib.Core.Path.{ap}
-use borrow.Author.Rules.{rules}
 use Rattle.costs.specs.declared.Cost.{Cost}
 use Rattle.console.specs.declared.desk.Reply.TheVariants.{Four}
 use Rattle.easel.proofs.PartLaws.{cost_in}

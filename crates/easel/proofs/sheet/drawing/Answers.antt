@@ -1,5 +1,4 @@
 -- `drawing` gives `drawing_done`: the same test of the translation.
-use borrow.Author.Rules.{rules}
 use Rattle.easel.proofs.PartLaws.{draws_not, draws}
 use Rattle.easel.proofs.sheet.drawing.Goals as goal
 

@@ -1,17 +1,10 @@
 -- `send_all` gives `played`: what is left to play from here, with the units so far, is what was to play from the start.
-use Prim.Native.Nat.{ℕ, ◌-◌, ◌*◌, ◌≤◌}
-use native.Mathlib.Omega.{arith}
-use mathlib.Core.List.{List}
-use mathlib.Core.Path.{◌≡◌, refl, sym, ◌∙◌}
+use Prim.Native.Nat.{◌-◌, ◌*◌, ◌≤◌}
+use mathlib.Core.Path.{◌≡◌}
 use lib.ListN.{length, drop}
-use borrow.Author.Rules.{rules}
-use Rattle.registers.specs.declared.Registers.{Registers}
 use Rattle.registers.specs.State.{state}
 use Rattle.finishing.specs.Finish.{more}
-use Rattle.finishing.proofs.FinishLaws.{none_more}
 use Rattle.easel.specs.Drawing.{played}
-use Rattle.finishing.proofs.FinishLaws.{finished_few}
-use Rattle.easel.proofs.PlayLaws.{plays_on, plays_out}
 use Rattle.easel.proofs.sheet.send_all.Given as goal
 
 abbrev pub invariant-loop-i : goal.invariant-loop-i

@@ -1,5 +1,4 @@
 -- `send_within` gives `played_within`: `played`, over the parts that are in use.
-use borrow.Author.Rules.{rules}
 use Rattle.easel.proofs.PartLaws.{played_within_law}
 use Rattle.easel.proofs.sheet.send_within.Goals as goal
 

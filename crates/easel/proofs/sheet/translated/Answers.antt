@@ -1,5 +1,4 @@
 -- `translated` gives `translated_in`: the translator's answer, over the parts that are in use.
-use borrow.Author.Rules.{rules}
 use Rattle.easel.proofs.PartLaws.{translated_in_law}
 use Rattle.easel.proofs.sheet.translated.Goals as goal
 

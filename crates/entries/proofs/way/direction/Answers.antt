@@ -1,7 +1,6 @@
 -- `direction` gives `dir_of`: its eight tests are the definition's, in the same order.
 use Rattle.entries.specs.Entries.{dir_of}
 use Rattle.entries.proofs.SlopeLaws.{dir_first}
-use borrow.Author.Rules.{rules}
 use Rattle.entries.proofs.way.direction.Goals as goal
 
 pub returns-then-right-down : goal.returns-then-right-down

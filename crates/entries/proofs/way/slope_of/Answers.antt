@@ -1,6 +1,5 @@
 -- `slope_of` gives `slope_of`: field by field what the calls give.
 use Rattle.entries.specs.Entries.{slope_of}
-use borrow.Author.Rules.{rules}
 use Rattle.entries.proofs.way.slope_of.Goals as goal
 
 pub returns : goal.returns

@@ -2,7 +2,6 @@
 use Rattle.figures.specs.Character.{character_pattern}
 use Rattle.dots.specs.Bit.{bit}
 use mathlib.Core.Path.{refl}
-use borrow.Author.Rules.{rules}
 use Rattle.figures.proofs.character.character_pattern.Goals as goal
 
 pub returns : goal.returns

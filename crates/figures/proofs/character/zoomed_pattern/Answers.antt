@@ -1,6 +1,5 @@
 -- `zoomed_pattern` is the definition, of the factor that ZOOM gives.
 use Rattle.figures.proofs.UnitLaws.{factor_some}
-use borrow.Author.Rules.{rules}
 use Rattle.figures.proofs.character.zoomed_pattern.Goals as goal
 
 pub character_pattern-requires : goal.character_pattern-requires

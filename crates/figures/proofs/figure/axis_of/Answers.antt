@@ -1,7 +1,6 @@
 -- `axis_of` is the definition, test by test.
 use borrow.Author.Tests.{eq-eqb, ne_eqb}
 use Prim.Native.Nat.{◌%◌}
-use borrow.Author.Rules.{rules}
 use Rattle.figures.proofs.figure.axis_of.Goals as goal
 
 pub returns-then-dir-eq0 : goal.returns-then-dir-eq0

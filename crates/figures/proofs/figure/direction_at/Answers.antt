@@ -1,7 +1,6 @@
 -- `direction_at` is the definition: a line, a rectangle, or dots along DIR.
 use Rattle.figures.specs.Figure.{direction_at}
 use borrow.Author.Tests.{eq-eqb, ne_eqb}
-use borrow.Author.Rules.{rules}
 use Rattle.figures.proofs.figure.direction_at.Goals as goal
 
 pub returns-then-f-eq-LINE_KIND : goal.returns-then-f-eq-LINE_KIND

@@ -1,7 +1,6 @@
 -- `error_after` is the definition: D is negative, or not.
 use Rattle.figures.specs.Figure.{error_after}
 use borrow.Author.Tests.{le-leb, lt-leb}
-use borrow.Author.Rules.{rules}
 use Rattle.figures.proofs.figure.error_after.Goals as goal
 
 pub returns-then-d-ge-SIGN : goal.returns-then-d-ge-SIGN

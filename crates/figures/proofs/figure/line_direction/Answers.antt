@@ -1,7 +1,6 @@
 -- `line_direction` is the definition: D is negative, or not.
 use Rattle.figures.specs.Figure.{line_direction}
 use borrow.Author.Tests.{le-leb, lt-leb}
-use borrow.Author.Rules.{rules}
 use Rattle.figures.proofs.figure.line_direction.Goals as goal
 
 pub returns-then-d-ge-SIGN : goal.returns-then-d-ge-SIGN

@@ -2,7 +2,6 @@
 use Rattle.figures.specs.Figure.{pattern_of}
 use Rattle.dots.specs.Bit.{bit}
 use mathlib.Core.Path.{refl}
-use borrow.Author.Rules.{rules}
 use Rattle.figures.proofs.figure.pattern_of.Goals as goal
 
 pub returns : goal.returns

@@ -1,7 +1,6 @@
 -- `running_d` is the definition: a line, or not.
 use Rattle.figures.specs.Figure.{running_d}
 use borrow.Author.Tests.{eq-eqb, ne_eqb}
-use borrow.Author.Rules.{rules}
 use Rattle.figures.proofs.figure.running_d.Goals as goal
 
 pub returns-then-f-eq-LINE_KIND : goal.returns-then-f-eq-LINE_KIND

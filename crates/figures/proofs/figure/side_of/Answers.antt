@@ -2,7 +2,6 @@
 use Rattle.figures.specs.Figure.{side_of}
 use borrow.Author.Tests.{lt-ltb, le-ltb}
 use Prim.Native.Nat.{◌+◌}
-use borrow.Author.Rules.{rules}
 use Rattle.figures.proofs.figure.side_of.Goals as goal
 
 pub returns-then-k-first : goal.returns-then-k-first

@@ -1,6 +1,5 @@
 -- `give` is the definition, by the type.
 use Rattle.figures.specs.Reading.{given}
-use borrow.Author.Rules.{rules}
 use Rattle.figures.proofs.reading.give.Goals as goal
 
 pub returns-in-Word : goal.returns-in-Word

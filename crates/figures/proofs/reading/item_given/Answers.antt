@@ -1,6 +1,5 @@
 -- `item_given` is the definition, of what its calls ensure.
 use Rattle.figures.specs.Reading.{item_given}
-use borrow.Author.Rules.{rules}
 use Rattle.figures.proofs.reading.item_given.Goals as goal
 
 pub returns : goal.returns

@@ -2,7 +2,6 @@
 use Rattle.figures.specs.Reading.{read_on}
 use borrow.Author.Tests.{lt-ltb, le-ltb}
 use Prim.Native.Nat.{◌+◌}
-use borrow.Author.Rules.{rules}
 use Rattle.figures.proofs.reading.read_on.Goals as goal
 
 pub returns-then-i-dc : goal.returns-then-i-dc

@@ -1,7 +1,6 @@
 -- `read_unit` is the definition: an item where its bytes fit, else nothing.
 use Rattle.figures.proofs.UnitLaws.{item_done, item_waits}
 use mathlib.Core.Path.{◌∙◌, sym}
-use borrow.Author.Rules.{rules}
 use Rattle.figures.proofs.reading.read_unit.Goals as goal
 
 pub returns-then-room : goal.returns-then-room

@@ -1,6 +1,5 @@
 -- `room` is the definition, of what its call ensures.
 use Rattle.figures.specs.Reading.{room_b}
-use borrow.Author.Rules.{rules}
 use Rattle.figures.proofs.reading.room.Goals as goal
 
 pub returns : goal.returns

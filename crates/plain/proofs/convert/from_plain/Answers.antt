@@ -1,6 +1,5 @@
 -- `from_plain` is the definition, part by part.
 use Rattle.plain.specs.Mirror.{from_plain}
-use borrow.Author.Rules.{rules}
 use Rattle.plain.proofs.convert.from_plain.Goals as goal
 
 pub returns : goal.returns

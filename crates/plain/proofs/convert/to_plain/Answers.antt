@@ -1,6 +1,5 @@
 -- `to_plain` is the definition, part by part.
 use Rattle.plain.specs.Mirror.{to_plain}
-use borrow.Author.Rules.{rules}
 use Rattle.plain.proofs.convert.to_plain.Goals as goal
 
 pub returns : goal.returns

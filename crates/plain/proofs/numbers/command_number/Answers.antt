@@ -1,5 +1,4 @@
 -- `command_number` is the definition, command by command.
-use borrow.Author.Rules.{rules}
 use Rattle.plain.proofs.numbers.command_number.Goals as goal
 
 pub returns-in-Nothing : goal.returns-in-Nothing

@@ -1,6 +1,5 @@
 -- `command_of` is the definition: at each number it computes; any other differs from each.
 use borrow.Author.Tests.{ne_eqb}
-use borrow.Author.Rules.{rules}
 use Rattle.plain.proofs.numbers.command_of.Goals as goal
 
 pub returns-in-0 : goal.returns-in-0

@@ -1,6 +1,5 @@
 -- `command_transfer` is the definition: WDAT and RDAT tell their transfer; any other command has 0.
 use Rattle.plain.proofs.NumberLaws.{no_transfer}
-use borrow.Author.Rules.{rules}
 use borrow.Enum.Refused.{opened}
 use Rattle.plain.proofs.numbers.command_transfer.Goals as goal
 

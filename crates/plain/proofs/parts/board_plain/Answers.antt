@@ -1,5 +1,4 @@
 -- `board_plain` is the definition, with its wiring.
-use borrow.Author.Rules.{rules}
 use Rattle.plain.proofs.parts.board_plain.Goals as goal
 
 pub returns : goal.returns

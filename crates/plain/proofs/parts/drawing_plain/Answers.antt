@@ -1,5 +1,4 @@
 -- `drawing_plain` is the definition, with its bit.
-use borrow.Author.Rules.{rules}
 use Rattle.plain.proofs.parts.drawing_plain.Goals as goal
 
 pub returns : goal.returns

@@ -1,5 +1,4 @@
 -- `progress_of` is the definition, with its command.
-use borrow.Author.Rules.{rules}
 use Rattle.plain.proofs.parts.progress_of.Goals as goal
 
 pub returns : goal.returns

@@ -1,5 +1,4 @@
 -- `video_of` is the definition, with its two bits.
-use borrow.Author.Rules.{rules}
 use Rattle.plain.proofs.parts.video_of.Goals as goal
 
 pub returns : goal.returns

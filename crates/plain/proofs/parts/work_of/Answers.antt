@@ -1,6 +1,5 @@
 -- `work_of` is the definition: at each kind it computes; any other number is taken for an arc.
 use borrow.Author.Tests.{ne_eqb}
-use borrow.Author.Rules.{rules}
 use Rattle.plain.proofs.parts.work_of.Goals as goal
 
 pub returns-in-0 : goal.returns-in-0

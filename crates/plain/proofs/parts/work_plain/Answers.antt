@@ -1,5 +1,4 @@
 -- `work_plain` is the definition, case by case.
-use borrow.Author.Rules.{rules}
 use Rattle.plain.proofs.parts.work_plain.Goals as goal
 
 pub returns-in-Idle : goal.returns-in-Idle

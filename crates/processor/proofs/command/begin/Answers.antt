@@ -1,5 +1,4 @@
 -- `begin` notes the command, with no parameter taken.
-use borrow.Author.Rules.{rules}
 use Rattle.processor.proofs.command.begin.Goals as goal
 
 pub returns : goal.returns

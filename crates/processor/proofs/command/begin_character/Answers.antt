@@ -1,6 +1,5 @@
 -- `begin_character` is the definition: rows and columns, or none.
 use Rattle.processor.specs.Command.{character_begun}
-use borrow.Author.Rules.{rules}
 use Rattle.processor.proofs.command.begin_character.Goals as goal
 
 pub returns-then-rows-columns : goal.returns-then-rows-columns

@@ -1,5 +1,4 @@
 -- `begin_count` is the definition, of what its call ensures.
-use borrow.Author.Rules.{rules}
 use Rattle.processor.proofs.command.begin_count.Goals as goal
 
 pub returns : goal.returns

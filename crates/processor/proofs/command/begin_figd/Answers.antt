@@ -1,7 +1,6 @@
 -- `begin_figd` is the definition, by the type.
 use Rattle.processor.specs.Command.{figd_taken}
 use borrow.Author.Tests.{eq-eqb, ne_eqb}
-use borrow.Author.Rules.{rules}
 use Rattle.processor.proofs.command.begin_figd.Goals as goal
 
 pub returns-then-r-eq-ARC_KIND : goal.returns-then-r-eq-ARC_KIND

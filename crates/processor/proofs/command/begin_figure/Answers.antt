@@ -1,7 +1,6 @@
 -- `begin_figure` is the definition: dots or none.
 use Rattle.processor.specs.Command.{figure_begun}
 use borrow.Author.Tests.{lt-ltb, le-ltb}
-use borrow.Author.Rules.{rules}
 use Rattle.processor.proofs.command.begin_figure.Goals as goal
 
 pub returns-then-dots-gt0 : goal.returns-then-dots-gt0

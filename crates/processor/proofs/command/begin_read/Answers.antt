@@ -1,7 +1,6 @@
 -- `begin_read` is the definition: the mode is turned, and there are items or none.
 use Rattle.processor.specs.Command.{read_begun}
 use borrow.Author.Tests.{lt-ltb, le-ltb}
-use borrow.Author.Rules.{rules}
 use Rattle.processor.proofs.command.begin_read.Goals as goal
 
 pub returns-then-r-gt0 : goal.returns-then-r-gt0

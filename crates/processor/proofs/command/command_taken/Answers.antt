@@ -1,9 +1,9 @@
--- `command_taken` decodes the byte, notes the command and goes by cases (`taken_by_law`); those that do nothing more share one (`quiet_by`).
+-- `command_taken` decodes the byte, notes the command and goes by cases (`taken_by_law`); those that do nothing more share one
+-- (`quiet_by`).
 use Rattle.processor.proofs.CommandLaws.{taken_by_law, quiet_by}
 use Rattle.processor.specs.Command.{turned, count_begun}
 use Rattle.registers.specs.Put.{put_op}
 use mathlib.Core.Path.{◌∙◌, ap}
-use borrow.Author.Rules.{rules}
 use Rattle.processor.proofs.command.command_taken.Goals as goal
 
 pub returns-in-Reset : goal.returns-in-Reset

@@ -1,5 +1,4 @@
 -- `pen_given` is the definition, of what its calls ensure.
-use borrow.Author.Rules.{rules}
 use Rattle.processor.proofs.command.pen_given.Goals as goal
 
 pub returns : goal.returns

@@ -1,6 +1,5 @@
 -- `reset_done` is the definition, register by register.
 use Rattle.processor.specs.Command.{reset_done}
-use borrow.Author.Rules.{rules}
 use Rattle.processor.proofs.command.reset_done.Goals as goal
 
 pub returns : goal.returns

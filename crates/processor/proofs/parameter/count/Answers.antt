@@ -1,5 +1,4 @@
 -- `count` counts the parameter and keeps the rest.
-use borrow.Author.Rules.{rules}
 use Rattle.processor.proofs.parameter.count.Goals as goal
 
 pub returns : goal.returns

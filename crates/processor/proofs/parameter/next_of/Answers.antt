@@ -1,7 +1,6 @@
 -- `next_of` is the definition, test by test.
 use Rattle.processor.specs.Entry.{next_of}
 use borrow.Author.Tests.{lt-ltb, le-ltb}
-use borrow.Author.Rules.{rules}
 use Rattle.processor.proofs.parameter.next_of.Goals as goal
 
 pub returns-then-i-lt16 : goal.returns-then-i-lt16

@@ -3,7 +3,6 @@
 use Rattle.processor.proofs.EntryLaws.{parameter_by_law, ignored_by, still}
 use Rattle.registers.specs.Put.{put_cursor, put_drawing, put_video}
 use mathlib.Core.Path.{◌∙◌, ap}
-use borrow.Author.Rules.{rules}
 use Rattle.processor.proofs.parameter.parameter_taken.Goals as goal
 
 pub returns-in-Reset : goal.returns-in-Reset

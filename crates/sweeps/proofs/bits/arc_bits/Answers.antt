@@ -1,6 +1,5 @@
 -- `arc_bits` walks as the cursor does (`bits_walk`).
 use Rattle.sweeps.proofs.WalkLaws.{bits_walk}
-use borrow.Author.Rules.{rules}
 use Rattle.sweeps.proofs.bits.arc_bits.Goals as goal
 
 pub returns : goal.returns

@@ -1,6 +1,5 @@
 -- `arc_by` goes by the operation, whose number is known then; the pattern of all ones is one pattern of them.
 use Rattle.dots.specs.Operation.{operation_of}
-use borrow.Author.Rules.{rules}
 use Rattle.sweeps.proofs.bits.arc_by.Goals as goal
 
 pub returns-then-high-eq255 : goal.returns-then-high-eq255

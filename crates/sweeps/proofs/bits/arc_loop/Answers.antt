@@ -1,16 +1,10 @@
 -- `arc_loop`: what is left to do from here is what was to do from the start (`place_goes`).
-use mathlib.Core.Path.{◌≡◌, refl, sym, ◌∙◌}
-use mathlib.Core.List.{List}
-use Prim.Native.Nat.{ℕ, ◌-◌, ◌%◌}
+use mathlib.Core.Path.{refl, sym, ◌∙◌}
+use Prim.Native.Nat.{◌%◌}
 use native.Mathlib.Omega.{arith}
-use lib.ListN.{length}
-use Rattle.dots.specs.declared.Wiring.{Wiring}
 use Rattle.dots.specs.Operation.{operation_of}
 use Rattle.walks.proofs.LoopLaws.{cycle_at}
-use Rattle.passes.specs.declared.Place.{Place}
-use Rattle.sweeps.specs.Place.{place_walk}
 use Rattle.sweeps.proofs.WalkLaws.{place_goes, place_ends}
-use borrow.Author.Rules.{rules}
 use Rattle.sweeps.proofs.bits.arc_loop.Goals as goal
 
 pub loop-k-init : goal.loop-k-init

@@ -1,23 +1,17 @@
 -- `arc_loop`: what is left to do from here is what was to do from the start (`place_goes`).
-use mathlib.Core.Path.{◌≡◌, refl, sym, ◌∙◌}
-use mathlib.Core.List.{List}
-use Prim.Native.Nat.{ℕ, ◌-◌, ◌%◌}
-use native.Mathlib.Omega.{arith}
+use mathlib.Core.Path.{◌≡◌}
+use Prim.Native.Nat.{◌-◌}
 use lib.ListN.{length}
-use Rattle.dots.specs.declared.Wiring.{Wiring}
 use Rattle.dots.specs.Operation.{operation_of}
-use Rattle.walks.proofs.LoopLaws.{cycle_at}
-use Rattle.passes.specs.declared.Place.{Place}
 use Rattle.sweeps.specs.Place.{place_walk}
-use Rattle.sweeps.proofs.WalkLaws.{place_goes, place_ends}
-use borrow.Author.Rules.{rules}
 use Rattle.sweeps.proofs.bits.arc_loop.Given as goal
 
 abbrev pub invariant-loop-k : goal.invariant-loop-k
 invariant-loop-k l =
     record {
       long : length l.mem ≡ length l.initial.mem;
-      same : place_walk l.wiring (operation_of l.kind) l.low l.high l.axis (l.end - l.i) l.i l.initial.p l.initial.mem ≡ place_walk l.wiring (operation_of l.kind) l.low l.high l.axis (l.end - l.k) l.k l.p l.mem;
+      same : place_walk l.wiring (operation_of l.kind) l.low l.high l.axis (l.end - l.i) l.i l.initial.p l.initial.mem
+          ≡ place_walk l.wiring (operation_of l.kind) l.low l.high l.axis (l.end - l.k) l.k l.p l.mem;
     }
 
 abbrev pub decreases-loop-k : goal.decreases-loop-k

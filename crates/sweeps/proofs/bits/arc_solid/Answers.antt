@@ -1,6 +1,5 @@
 -- `arc_solid` goes by the operation, whose number is known then.
 use Rattle.dots.specs.Operation.{operation_of}
-use borrow.Author.Rules.{rules}
 use Rattle.sweeps.proofs.bits.arc_solid.Goals as goal
 
 pub returns-in-Replace : goal.returns-in-Replace

@@ -1,7 +1,6 @@
 -- `address_of` answers the bit address of a mask of one bit (`address_stands`), and else no bit address.
 use native.Mathlib.Omega.{arith}
 use Rattle.walks.proofs.BitLaws.{address_stands}
-use borrow.Author.Rules.{rules}
 use Rattle.walks.proofs.bits.address_of.Goals as goal
 
 pub returns-then-c-ge262144 : goal.returns-then-c-ge262144

@@ -1,6 +1,5 @@
 -- `line_dots` walks as the cursor does (`line_done`).
 use Rattle.walks.proofs.BitLaws.{line_done}
-use borrow.Author.Rules.{rules}
 use Rattle.walks.proofs.line.line_dots.Goals as goal
 
 pub line_by-s-requires : goal.line_by-s-requires

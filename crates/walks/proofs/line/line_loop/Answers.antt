@@ -1,12 +1,8 @@
 -- `line_loop`: what is left to do from here is what was to do from the start (`line_on`).
-use mathlib.Core.Path.{◌≡◌, refl, sym, ◌∙◌}
-use mathlib.Core.List.{List}
-use Prim.Native.Nat.{ℕ, ◌-◌, ◌%◌, ◌<◌}
+use mathlib.Core.Path.{refl, sym, ◌∙◌}
+use Prim.Native.Nat.{◌%◌}
 use native.Mathlib.Omega.{arith}
-use lib.ListN.{length}
-use Rattle.dots.specs.declared.Wiring.{Wiring}
 use Rattle.dots.specs.Operation.{operation_of}
-use Rattle.walks.specs.Address.{line_walk}
 use Rattle.walks.proofs.LoopLaws.{cycle_at, stepped_lt, line_on, line_end}
 use borrow.Author.Rules.{rules}
 use Rattle.walks.proofs.line.line_loop.Goals as goal

@@ -3,7 +3,6 @@
 use native.Mathlib.Omega.{arith}
 use borrow.Author.Tests.{le-leb, lt-leb}
 use Rattle.walks.specs.Address.{line_stepped}
-use borrow.Author.Rules.{rules}
 use Rattle.walks.proofs.line.line_step.Goals as goal
 
 pub returns-then-s-ne0 : goal.returns-then-s-ne0

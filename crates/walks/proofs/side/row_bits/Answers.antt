@@ -1,7 +1,6 @@
 -- `row_bits` walks as the cursor does (`row_done`).
 use Rattle.walks.proofs.BitLaws.{stride_small}
 use Rattle.walks.proofs.RowLaws.{row_done}
-use borrow.Author.Rules.{rules}
 use Rattle.walks.proofs.side.row_bits.Goals as goal
 
 pub straight_by-requires : goal.straight_by-requires

@@ -1,12 +1,6 @@
 -- `rows_bits`: what is left to do from here is what was to do from the start, a row at a time (`rows_on`).
-use mathlib.Core.Path.{◌≡◌, refl, sym, ◌∙◌}
-use mathlib.Core.List.{List}
-use Prim.Native.Nat.{ℕ, ◌-◌, ◌<◌}
+use mathlib.Core.Path.{refl, sym, ◌∙◌}
 use native.Mathlib.Omega.{arith}
-use lib.ListN.{length}
-use Rattle.dots.specs.Dot.{cursor_at}
-use Rattle.walks.specs.declared.Brush.{Brush}
-use Rattle.walks.specs.Walk.{rows_walk}
 use Rattle.walks.proofs.BitLaws.{stride_small}
 use Rattle.walks.proofs.RowLaws.{next_bits}
 use Rattle.walks.proofs.WalkLaws.{rows_on, rows_end}

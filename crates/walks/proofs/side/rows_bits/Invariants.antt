@@ -1,16 +1,9 @@
 -- `rows_bits`: what is left to do from here is what was to do from the start, a row at a time (`rows_on`).
-use mathlib.Core.Path.{◌≡◌, refl, sym, ◌∙◌}
-use mathlib.Core.List.{List}
-use Prim.Native.Nat.{ℕ, ◌-◌, ◌<◌}
-use native.Mathlib.Omega.{arith}
+use mathlib.Core.Path.{◌≡◌}
+use Prim.Native.Nat.{◌-◌, ◌<◌}
 use lib.ListN.{length}
 use Rattle.dots.specs.Dot.{cursor_at}
-use Rattle.walks.specs.declared.Brush.{Brush}
 use Rattle.walks.specs.Walk.{rows_walk}
-use Rattle.walks.proofs.BitLaws.{stride_small}
-use Rattle.walks.proofs.RowLaws.{next_bits}
-use Rattle.walks.proofs.WalkLaws.{rows_on, rows_end}
-use borrow.Author.Rules.{rules}
 use Rattle.walks.proofs.side.rows_bits.Given as goal
 
 abbrev pub invariant-loop-i : goal.invariant-loop-i

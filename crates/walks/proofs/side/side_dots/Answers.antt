@@ -1,12 +1,6 @@
 -- `side_dots`: what is left to do from here is what was to do from the start, a side at a time (`side_on`).
-use mathlib.Core.Path.{◌≡◌, refl, sym, ◌∙◌}
-use mathlib.Core.List.{List}
-use Prim.Native.Nat.{ℕ, ◌-◌, ◌<◌}
+use mathlib.Core.Path.{refl, sym, ◌∙◌}
 use native.Mathlib.Omega.{arith}
-use lib.ListN.{length}
-use Rattle.dots.specs.Dot.{cursor_at}
-use Rattle.walks.specs.declared.Brush.{Brush}
-use Rattle.walks.specs.Walk.{figure_walk}
 use Rattle.walks.proofs.LoopLaws.{straight_lt}
 use Rattle.walks.proofs.BitLaws.{stride_small, side_past, side_on, sides_end}
 use borrow.Author.Rules.{rules}

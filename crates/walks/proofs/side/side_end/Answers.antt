@@ -1,6 +1,5 @@
 -- `side_end` goes by the three tests that tell the sides (SideLaws).
 use Rattle.walks.proofs.SideLaws.{no_side, side_1, side_2, side_3, side_4}
-use borrow.Author.Rules.{rules}
 use Rattle.walks.proofs.side.side_end.Goals as goal
 
 pub returns-then-f-ne-RECTANGLE_KIND : goal.returns-then-f-ne-RECTANGLE_KIND

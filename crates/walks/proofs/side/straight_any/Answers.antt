@@ -1,5 +1,4 @@
 -- `straight_any`: the pattern of all ones is one pattern of them.
-use borrow.Author.Rules.{rules}
 use Rattle.walks.proofs.side.straight_any.Goals as goal
 
 pub returns-then-high-eq255 : goal.returns-then-high-eq255

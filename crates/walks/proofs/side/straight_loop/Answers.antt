@@ -1,12 +1,7 @@
 -- `straight_loop`: what is left to do from here is what was to do from the start (`straight_on`).
-use mathlib.Core.Path.{◌≡◌, refl, sym, ◌∙◌}
-use mathlib.Core.List.{List}
-use Prim.Native.Nat.{ℕ, ◌-◌, ◌<◌}
+use mathlib.Core.Path.{refl, sym, ◌∙◌}
 use native.Mathlib.Omega.{arith}
-use lib.ListN.{length}
-use Rattle.dots.specs.declared.Wiring.{Wiring}
 use Rattle.dots.specs.Operation.{operation_of}
-use Rattle.walks.specs.Address.{straight_walk}
 use Rattle.walks.proofs.LoopLaws.{cycle_at, straight_on, straight_end}
 use borrow.Author.Rules.{rules}
 use Rattle.walks.proofs.side.straight_loop.Goals as goal

@@ -1,14 +1,9 @@
 -- `straight_loop`: what is left to do from here is what was to do from the start (`straight_on`).
-use mathlib.Core.Path.{◌≡◌, refl, sym, ◌∙◌}
-use mathlib.Core.List.{List}
-use Prim.Native.Nat.{ℕ, ◌-◌, ◌<◌}
-use native.Mathlib.Omega.{arith}
+use mathlib.Core.Path.{◌≡◌}
+use Prim.Native.Nat.{◌-◌, ◌<◌}
 use lib.ListN.{length}
-use Rattle.dots.specs.declared.Wiring.{Wiring}
 use Rattle.dots.specs.Operation.{operation_of}
 use Rattle.walks.specs.Address.{straight_walk}
-use Rattle.walks.proofs.LoopLaws.{cycle_at, straight_on, straight_end}
-use borrow.Author.Rules.{rules}
 use Rattle.walks.proofs.side.straight_loop.Given as goal
 
 abbrev pub invariant-loop-i : goal.invariant-loop-i
@@ -16,7 +11,8 @@ invariant-loop-i l =
     record {
       small : l.a < 4194304;
       long : length l.mem ≡ length l.initial.mem;
-      same : straight_walk l.wiring (operation_of l.kind) l.low l.high l.step (l.end - l.k) l.k l.initial.a l.initial.mem ≡ straight_walk l.wiring (operation_of l.kind) l.low l.high l.step (l.end - l.i) l.i l.a l.mem;
+      same : straight_walk l.wiring (operation_of l.kind) l.low l.high l.step (l.end - l.k) l.k l.initial.a l.initial.mem
+          ≡ straight_walk l.wiring (operation_of l.kind) l.low l.high l.step (l.end - l.i) l.i l.a l.mem;
     }
 
 abbrev pub decreases-loop-i : goal.decreases-loop-i

@@ -2,7 +2,6 @@
 use mathlib.Core.Path.{◌∙◌}
 use Rattle.dots.specs.Cycle.{cycled}
 use Rattle.figures.specs.Figure.{pattern_at}
-use borrow.Author.Rules.{rules}
 use Rattle.walks.proofs.steps.dot.Goals as goal
 
 pub returns : goal.returns

@@ -1,7 +1,6 @@
 -- `letter` is a cycle with the pattern of its row and dot.
 use mathlib.Core.Path.{◌∙◌}
 use Rattle.dots.specs.Cycle.{cycled}
-use borrow.Author.Rules.{rules}
 use Rattle.walks.proofs.steps.letter.Goals as goal
 
 pub returns : goal.returns

@@ -1,14 +1,8 @@
 -- `plain_dots`: what is left to do from here is what was to do from the start (`dots_on`).
-use mathlib.Core.Path.{◌≡◌, refl, sym, ◌∙◌}
-use mathlib.Core.List.{List}
-use Prim.Native.Nat.{ℕ, ◌-◌}
-use native.Mathlib.Omega.{arith}
-use borrow.Author.Rules.{rules}
+use mathlib.Core.Path.{◌≡◌}
+use Prim.Native.Nat.{◌-◌}
 use lib.ListN.{length}
-use Rattle.dots.specs.declared.Cursor.{Cursor}
-use Rattle.walks.specs.declared.Brush.{Brush}
 use Rattle.walks.specs.Walk.{figure_walk}
-use Rattle.walks.proofs.WalkLaws.{dots_on, dots_end}
 use Rattle.walks.proofs.steps.plain_dots.Given as goal
 
 abbrev pub invariant-loop-i : goal.invariant-loop-i

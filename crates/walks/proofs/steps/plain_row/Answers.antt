@@ -1,13 +1,6 @@
 -- `plain_row`: what is left to do from here is what was to do from the start (`row_on`).
-use mathlib.Core.Path.{◌≡◌, refl, sym, ◌∙◌}
-use mathlib.Core.List.{List}
-use Prim.Native.Nat.{ℕ, ◌-◌}
+use mathlib.Core.Path.{refl, sym, ◌∙◌}
 use native.Mathlib.Omega.{arith}
-use borrow.Author.Rules.{rules}
-use lib.ListN.{length}
-use Rattle.dots.specs.declared.Cursor.{Cursor}
-use Rattle.walks.specs.declared.Brush.{Brush}
-use Rattle.walks.specs.Walk.{row_walk}
 use Rattle.walks.proofs.WalkLaws.{row_on, row_end}
 use Rattle.walks.proofs.steps.plain_row.Goals as goal
 
