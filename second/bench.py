@@ -9,15 +9,13 @@ and the geometry (plane.py), all written from the paper alone.
 When a sheet is drawn (`X`) from a sound controller in write mode, with an
 empty buffer, nothing being drawn and a picture that fits, the memory afterwards
 is the one that the geometry paints, and an `assert` holds the controller to it.
-Under open wiring a larger picture is held to it too, cut off at the length. The
-units of an `X` from an idle controller are held to the cost (cost.py) likewise.
+Under open wiring a larger picture is held to it too, cut off at the length.
 """
 
 import re
 import sys
 
 from chip import BUDGET_SPENT, WRITE_MODE, Chip
-from cost import cost
 from plane import paint
 from sheet import Picture, Refused, fits, read_sheet, translate
 from wiring import FOLDED, OPEN, lawful_length
@@ -245,7 +243,6 @@ class Bench:
             figures, entries = self.figures_and_entries()
         except Refused as refused:
             return "X %X %X %X 0" % refused.answer
-        idle = self.idle()
         if self.may_be_held_to_the_geometry():
             painted = self.painted(figures)
             units = self.send_all(entries)
@@ -253,25 +250,7 @@ class Bench:
             self.chip.memory = painted
         else:
             units = self.send_all(entries)
-        assert not idle or cost(figures) == (len(entries), units), "controller and cost differ"
         return "X 0 %X 0 %X" % (len(entries), units)
-
-    def cost_of_sheet(self):
-        # "what the sheet will cost; nothing is sent": "what `X` answers where
-        # the controller is idle before it; no room is lent, so 14 (decimal
-        # 20) does not come". Registers and memory have no part in it.
-        try:
-            figures = read_sheet(self.picture, self.glyphs, self.sheet)
-        except Refused as refused:
-            return "K %X %X %X 0" % refused.answer
-        entries, units = cost(figures)
-        assert entries == len(translate(self.picture, self.glyphs, figures)), "translation and cost differ"
-        return "K 0 %X 0 %X" % (entries, units)
-
-    def idle(self):
-        # Sound, no run refused, nothing in progress or queued; in either mode.
-        chip = self.chip
-        return chip.sound() and lawful_length(len(chip.memory), chip.wiring) and chip.nothing_to_do()
 
     def may_be_held_to_the_geometry(self):
         # Sound, write mode, buffer empty, nothing being drawn, no run refused,
@@ -336,7 +315,6 @@ OPERATIONS = {
     "B": (1, 1, Bench.add_to_sheet),
     "T": (1, 1, Bench.translation),
     "X": (0, 0, Bench.draw_sheet),
-    "K": (0, 0, Bench.cost_of_sheet),
     "F": (1, 1, Bench.show_field),
     "J": (2, 2, Bench.put_field),
 }

@@ -1,10 +1,9 @@
-"""How the self check checks: a value against the expected one, a script against its answers; the sheets' blocks.
+"""How the self check checks: a value against the expected one, a script against its answers.
 
 A part of the SECOND PROGRAM; selfcheck.py has the worked cases.
 """
 
 from bench import Bench
-from sheet import block_sum
 
 ACCEPTANCES = ("M 0", "O 0", "W 0", "C 0", "P 0", "L 0", "J 0")
 
@@ -24,18 +23,6 @@ def talk(what, script, answers):
     found = [bench.answer(line) for line in script.split("; ")]
     told = [answer for answer in found if answer not in ACCEPTANCES]
     check(what, "; ".join(told), answers)
-
-
-def block(number, count, last, records, damage=None):
-    # A block with its check; `damage` is (place, byte) set before the check.
-    body = bytearray(510)
-    body[0:4] = bytes([number % 256, number // 256, count, last])
-    for index, record in enumerate(records):
-        body[4 + 10 * index:14 + 10 * index] = bytes.fromhex(record)
-    if damage is not None:
-        body[damage[0]] = damage[1]
-    total = block_sum(bytes(body))
-    return bytes(body) + bytes([total % 256, total // 256])
 
 
 def summary():

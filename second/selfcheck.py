@@ -9,14 +9,25 @@ papers' sentences with pencil and paper, not taken from any program.
 import sys
 
 from bench import Bench, digest
-from checking import block, check, summary, talk
+from checking import check, summary, talk
 from commands import NAMES
 from plane import border_dots, circle_dots, dots, glyph_dots, line_dots
-from selfcheck_cost import check_costs
 from selfcheck_left import check_cycles_left
 from selfcheck_writes import check_bit_mapped_work
-from sheet import CIRCLE, DOT, GLYPH, LINE, RECTANGLE, Figure, Picture, translate
+from sheet import CIRCLE, DOT, GLYPH, LINE, RECTANGLE, Figure, Picture, block_sum, translate
 from steps import logic_unit, step, whole_word_move
+
+
+def block(number, count, last, records, damage=None):
+    # A block with its check; `damage` is (place, byte) set before the check.
+    body = bytearray(510)
+    body[0:4] = bytes([number % 256, number // 256, count, last])
+    for index, record in enumerate(records):
+        body[4 + 10 * index:14 + 10 * index] = bytes.fromhex(record)
+    if damage is not None:
+        body[damage[0]] = damage[1]
+    total = block_sum(bytes(body))
+    return bytes(body) + bytes([total % 256, total // 256])
 
 
 def check_logic_unit():
@@ -544,7 +555,6 @@ def main():
     check_sheets_on_odd_boards()
     check_bit_mapped_work()
     check_cycles_left()
-    check_costs()
     return summary()
 
 

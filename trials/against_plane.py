@@ -5,13 +5,12 @@
 
 Each sheet, with circles among its figures, is translated and drawn by the
 model of the controller from a random register set (write mode, empty buffer,
-nothing being drawn), and the memory is held against what plane.py paints, the
-units against the cost that was said before. The first difference stops the
-program with an `assert`, here or in bench.py. It tries the second program
-against itself and has no part in comparing it with the proved program. With
---radii each sheet is one circle: every radius that a lawful picture holds, 1 to
-1,023. With --open the wiring is open and the length any from 16 on: the
-picture's own, some words more, or less than the picture has.
+nothing being drawn), and the memory is held against what plane.py paints. The
+first difference stops the program with the `assert` in bench.py. It tries the
+second program against itself and has no part in comparing it with the proved
+program. With --radii each sheet is one circle: every radius that a lawful
+picture holds, 1 to 1,023. With --open the wiring is open and the length any
+from 16 on: the picture's own, some words more, or less than the picture has.
 """
 
 import argparse
@@ -84,10 +83,8 @@ def one_sheet(maker, bench, wiring):
     for line in maker.lines:
         assert bench.answer(line).endswith(" 0"), line
     assert bench.may_be_held_to_the_geometry()
-    cost = bench.answer("K").split(" ")
     answer = bench.answer("X").split(" ")
     assert answer[:4] == ["X", "0", "%X" % needed, "0"], answer
-    assert cost[1:] == answer[1:], cost
     circles = sum(body[4 + 10 * index] == 5 for body in bodies for index in range(body[2]))
     return int(answer[4], 16), circles
 
@@ -102,10 +99,8 @@ def one_radius(maker, bench, r):
     bench.sheet = with_check(body)
     random_registers(bench.chip, maker.random)
     assert bench.may_be_held_to_the_geometry()
-    cost = bench.answer("K").split(" ")
     answer = bench.answer("X").split(" ")
     units = int(answer[4], 16)
-    assert cost[1:] == answer[1:], cost
     assert units == 163 + sum(bin(word).count("1") for word in bench.chip.memory if word), answer
     return units, 1
 

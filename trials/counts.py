@@ -125,7 +125,7 @@ class Counts(Wirings):
         right = self.drawing() if self.chance(0.5) else 0
         count = self.pick([right, right + 1, max(right - 1, 0), 0, 1])
         self.emit("J 103 %X" % count)
-        self.draw()
+        self.emit("X")
         self.emit("F 103")
         self.set_picture(words, height)
         return 0 if count == right else right

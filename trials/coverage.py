@@ -14,7 +14,6 @@ HERE = os.path.dirname(os.path.abspath(__file__))
 sys.path.insert(0, os.path.join(HERE, os.pardir, "second"))
 
 from bench import OPERATIONS, Bench  # noqa: E402
-from counted_cost import CountedCosts, cost_state  # noqa: E402
 from reads import READ_MODE          # noqa: E402
 from counted_left import count_anew, count_left_put, count_other_lines, count_shown, count_x_of_counts  # noqa: E402
 from counted_wirings import count_malformed_field, count_new_memory, count_put, count_x_of_wirings  # noqa: E402
@@ -29,13 +28,12 @@ from wiring import OPEN              # noqa: E402
 KIND_NAMES = ["", "dot", "line", "rectangle", "glyph", "circle"]
 
 
-class CountingBench(CountedCosts, Bench):
+class CountingBench(Bench):
 
     def count_line(self, line):
         if line[:1] == "X" and len(line) == 1:
             self.count_start_of_x()
         wiring, left, sound, figure = self.chip.wiring, self.chip.left, self.chip.sound(), self.chip.figure is not None
-        state, full = cost_state(self.chip), len(self.chip.buffer) == 16 and self.chip.mode != READ_MODE
         answer = self.answer(line)
         letter, *fields = line.split(" ")
         count_other_lines(letter, fields, answer, sound)
@@ -53,12 +51,6 @@ class CountingBench(CountedCosts, Bench):
             self.count_field(letter, fields, wiring, left)
         if letter in ("T", "X"):
             self.count_sheet(letter, line, [int(field, 16) for field in answer.split(" ")[1:4]])
-        if letter == "X":
-            self.count_x_after_k(answer, state, full)
-        if letter == "K":
-            self.count_cost(answer)
-        else:
-            self.since += letter
 
     def count_field(self, letter, fields, wiring, left):
         # F or J, done; the wiring and the count before it.

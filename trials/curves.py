@@ -117,7 +117,7 @@ class Curves(Episodes, Sheets):
             self.arc_in_progress()
         else:
             self.choose_start()
-        self.draw()
+        self.emit("X")
         self.emit("D")
         self.emit("H")
 
@@ -142,7 +142,7 @@ class Curves(Episodes, Sheets):
         self.emit("T", self.pick([needed + 161, 0]))
         if self.chance(0.3):
             self.emit("C", 0)
-            self.draw()
+            self.emit("X")
             self.emit("D")
 
     def damaged_circle(self):

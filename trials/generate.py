@@ -27,7 +27,7 @@ import random
 import sys
 
 from casebook import expand_cases
-from costs import Costs
+from counts import Counts
 
 # The weight table: how many of each kind are taken while others take theirs.
 WEIGHTS = {
@@ -52,12 +52,10 @@ WEIGHTS = {
     "odd_sheet": 8,         # a lawful sheet on a board of its size, or of a few words less
     "cycles_left": 12,      # a figure or other work, the cycles left asked after its units
     "false_count": 14,      # counts put, true and false, with entries between
-    "dear_sheet": 8,        # a sheet of any cost, asked for it and not drawn
-    "cost_between": 6,      # other work, the cost of a sheet asked among its lines
 }
 
 
-class Generator(Costs):
+class Generator(Counts):
     """Random episodes of every kind."""
 
     def random_operations(self, seed, wanted):

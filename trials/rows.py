@@ -21,7 +21,6 @@ MOST_PARAMETERS = {"RESET": 8, "CCHAR": 3, "ZOOM": 1, "CURS": 3, "PITCH": 1, "MA
 PLACES = ["first", "inner", "last"]
 SHEET_KINDS = ["dot", "line", "line of one dot", "diagonal line", "rectangle", "flat rectangle",
                "standing rectangle", "rectangle of one dot", "glyph", "circle"]
-CIRCLE_FACTS = ["radius 1", "last dots coincide", "last dots side by side", "open", "radius over 255", "radius 1,023"]
 MASK_KINDS = ["0000", "one bit", "FFFF", "of other bits"]
 MASKS_BY_BITS = {0: MASK_KINDS[0], 1: MASK_KINDS[1], 16: MASK_KINDS[2]}
 
@@ -48,10 +47,7 @@ DROPPERS = ["WDAT", "RESET", "unknown", "another command"]
 LEFT_AT = ["all of it", "some of it", "its last cycle"]
 PUT_COUNTS = ["true", "one more", "one less", "0", "other"]
 CALLS = ["RESET", "a command", "a parameter", "a read", "the status", "the pen", "a run", "a run of budget 0"]
-LINES_THAT_DO_NOT_ASK = ["D", "F", "H", "J", "V", "W", "Q", "G", "Z", "B", "T", "K", "M", "O"]
-
-# The states in which a sheet's cost is asked.
-COST_STATES = STATES + ["in read mode, no read in progress", "with a false count", "where runs are refused with 2"]
+LINES_THAT_DO_NOT_ASK = ["D", "F", "H", "J", "V", "W", "Q", "G", "Z", "B", "T", "M", "O"]
 
 # Dots of a character by which a program with narrower numbers is told.
 PAST_WIDTH = "on past its row's dots modulo 65,536"
@@ -121,7 +117,7 @@ def rows():
             table.append(row)
     table += rows_of_parameters() + rows_of_figures() + rows_of_steps()
     table += rows_of_reads() + rows_of_ports() + rows_of_sheets() + rows_of_wirings() + rows_of_sets()
-    table += rows_of_counts() + rows_of_false_counts() + rows_of_costs() + rows_of_language()
+    table += rows_of_counts() + rows_of_false_counts() + rows_of_language()
     return table
 
 
@@ -247,7 +243,8 @@ def rows_of_circles():
     table += ["19 by a circle one dot past the %s alone" % side for side in SIDES]
     table += ["circle at the %s edge" % side for side in SIDES]
     table += ["circle by " + operation for operation in OPERATION_NAMES]
-    table += ["circle: " + what for what in CIRCLE_FACTS]
+    table += ["circle: " + what for what in (
+        "radius 1", "last dots coincide", "last dots side by side", "open", "radius over 255", "radius 1,023")]
     table += ["sheet: " + what for what in ("800 circles", "circles beside other kinds", "over 65,535 entries in exact room",
                                             "over 65,535 entries, one too few")]
     table += ["X of circles held to the geometry"]
@@ -344,33 +341,8 @@ def rows_of_false_counts():
     return table
 
 
-def rows_of_costs():
-    table = ["K gives %d" % number for number in [0] + list(range(11, 20))]
-    table += ["K: " + row for row in sorted(SHEET_ROWS)]
-    table += ["K, alone, translated: " + kind for kind in SHEET_KINDS]
-    table += ["K, alone, glyph factor %d" % factor for factor in range(1, 17)]
-    table += ["K, alone, circle: " + what for what in CIRCLE_FACTS]
-    table += ["K of a sheet that is %s, %s" % (what, state) for what in ("accepted", "refused") for state in COST_STATES]
-    table += ["K under %s wiring" % wiring for wiring in WIRING_NAMES]
-    table += ["K " + what for what in (
-        "of a picture larger than the memory", "with a full buffer", "with a half-sent word", "gives more than 65,535 entries",
-        "gives more than 65,535 units", "gives 13,124,002 units", "again at once", "again after X")]
-    table += ["K again after %s alone, %s" % (letter, what) for letter in "QG" for what in ("the same", "another answer")]
-    table += ["K again after %s alone, another answer" % letter for letter in "ZB"]
-    table += ["K and X: the same, " + state for state in (COST_STATES[0], COST_STATES[2], COST_STATES[4])]
-    table += ["K and X: other units, " + state for state in (
-        COST_STATES[1], COST_STATES[3], COST_STATES[5], COST_STATES[6], "with a full buffer")]
-    table += ["K and X, refused: the same, " + state for state in COST_STATES]
-    return table
-
-
 def rows_of_language():
     table = ["line %s" % letter for letter in OPERATIONS]
     table += ["? for %s" % letter for letter in OPERATIONS]
     table += ["? for another line", "? for an empty line", "? for a line too long"]
     return table
-
-
-# The rows about a sheet itself, which K can reach as well as T and X: all but
-# those of X's start and of T's room.
-SHEET_ROWS = {row for row in rows_of_sheets() if row[:2] not in ("T ", "X ") and "room" not in row and "too few" not in row}

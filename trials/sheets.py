@@ -101,11 +101,6 @@ class Sheets(Basics):
         for start in range(0, len(text), cut):
             self.emit("B " + text[start:start + cut])
 
-    def draw(self):
-        # What the sheet will cost, and the sheet drawn.
-        self.emit("K")
-        self.emit("X")
-
     def good_sheet(self):
         if self.chance(0.3):
             self.new_memory(self.pick([0x400, 0x1000, 0x4000, self.pick(LENGTHS)]))
@@ -121,7 +116,7 @@ class Sheets(Basics):
         if self.chance(0.7):
             self.emit("T", self.pick([needed, needed, needed - 1, needed + 1, 0xFFFFFFFF, 0, self.below(needed)]))
         self.choose_start()
-        self.draw()
+        self.emit("X")
         self.emit("D")
         if self.length <= 0x4000 or self.chance(0.15):
             self.emit("H")
@@ -182,7 +177,7 @@ class Sheets(Basics):
         self.emit("T", 0x41A2)
         if self.chance(0.5):
             self.emit("C", 0)
-            self.draw()
+            self.emit("X")
             self.emit("D")
 
     def damage(self, bodies, errors):
@@ -247,7 +242,7 @@ class Sheets(Basics):
                       self.pick([0, 1, 4096, 4097, self.below(5000)]))
             self.emit("T", 13)
             self.emit("C", 0)
-            self.draw()
+            self.emit("X")
             self.emit("Q", self.words, self.height)
         elif kind == 2:
             size = self.pick([0, 4, 12, 7, 8, 9, 2040, 2048, 2049, 2056, 4096, 4097, self.below(100)])
@@ -255,7 +250,7 @@ class Sheets(Basics):
             self.emit_sheet(with_check(block_body(0, 0, 1, [])))
             self.emit("T", 2)
             self.emit("C", 0)
-            self.draw()
+            self.emit("X")
             self.choose_glyphs(1)
         else:
             blocks = self.pick([1, 2, 15, 16, 17, 17])
@@ -266,4 +261,4 @@ class Sheets(Basics):
             self.emit("B 00")
             self.emit("T", 0x41A2)
             self.emit("C", 0)
-            self.draw()
+            self.emit("X")

@@ -94,7 +94,7 @@ class Wirings(Curves):
         if self.chance(0.3):
             self.draw_folded()
         else:
-            self.draw()
+            self.emit("X")
         self.emit("D")
         self.emit("H")
         self.new_memory(length)
@@ -103,7 +103,7 @@ class Wirings(Curves):
     def draw_folded(self):
         # Mostly a length that folded wiring refuses: the entries wait.
         self.emit("J 108 0")
-        self.draw()
+        self.emit("X")
         self.emit(self.pick(["D", "S", "H"]))
         self.emit("J 108 1")
         self.emit("U", self.pick([1, 13, 40, 200]))

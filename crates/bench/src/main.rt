@@ -83,7 +83,6 @@ fn quiet(
         Order::OfShow(s) => shown(r, d, s, mem, out),
         Order::OfPaper(p) => laid(easel::paper_done(d, p, hex, papers), out),
         Order::Translate(n) => with_held(d, easel::translation(d, n, papers, out)),
-        Order::Cost => with_held(d, told(easel::cost(d, papers), out, d.held)),
         _ => with_held(d, console::output::unknown(out, d.held)),
     }
 }

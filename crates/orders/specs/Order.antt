@@ -5,7 +5,7 @@ use Rattle.dots.specs.declared.Wiring.TheVariants.{Folded, Open}
 use Rattle.script.specs.declared.Line.{Line}
 use Rattle.script.specs.declared.Line.TheVariants as line
 use Rattle.orders.specs.declared.Order.{Order}
-use Rattle.orders.specs.declared.Order.TheVariants.{Unknown, OfPort, OfMemory, OfShow, OfPaper, Translate, Cost, Draw, Count, Wire}
+use Rattle.orders.specs.declared.Order.TheVariants.{Unknown, OfPort, OfMemory, OfShow, OfPaper, Translate, Draw, Count, Wire}
 use Rattle.orders.specs.declared.Port.TheVariants.{Command, Parameter, Pen, Read, Status}
 use Rattle.orders.specs.declared.Memory.TheVariants.{Fresh, Word, Run}
 use Rattle.orders.specs.declared.Show.TheVariants.{Registers, Words, Digest, Counted, Wired}
@@ -58,7 +58,7 @@ wiring_order v = cond (eqb v 0) (Wire Folded) (cond (eqb v 1) (Wire Open) Unknow
 unfoldable pub put_order : ℕ → ℕ → Order
 put_order request v = cond (eqb request 0x103) (count_order v) (cond (eqb request 0x108) (wiring_order v) Unknown)
 
--- a letter alone: R, S, D, H, G, Z, X, K
+-- a letter alone: R, S, D, H, G, Z, X
 unfoldable pub bare_order : ℕ → Order
 bare_order letter =
     cond (eqb letter 82) (OfPort Read)
@@ -68,8 +68,7 @@ bare_order letter =
     (cond (eqb letter 71) (OfPaper NoGlyphs)
     (cond (eqb letter 90) (OfPaper NoSheet)
     (cond (eqb letter 88) Draw
-    (cond (eqb letter 75) Cost
-    Unknown)))))))
+    Unknown))))))
 
 -- a letter and a number: "M n", of which any number is taken, F, and those above
 unfoldable pub one_order : ℕ → ℕ → Order

@@ -59,8 +59,8 @@ pub enum Paper {
     More,
 }
 
-// What a line asks for; of the sheet its translation into a room of entries, its cost, and its drawing; of the register set another count
-// of cycles left, or wiring.
+// What a line asks for; of the sheet its translation into a room of entries, and its drawing; of the register set another count of cycles
+// left, or wiring.
 #[derive(Clone, Copy)]
 pub enum Order {
     Unknown,
@@ -69,7 +69,6 @@ pub enum Order {
     OfShow(Show),
     OfPaper(Paper),
     Translate(u32),
-    Cost,
     Draw,
     Count(u64),
     Wire(Wiring),
@@ -185,7 +184,6 @@ fn bare_order(letter: u8) -> Order
         b'G' => Order::OfPaper(Paper::NoGlyphs),
         b'Z' => Order::OfPaper(Paper::NoSheet),
         b'X' => Order::Draw,
-        b'K' => Order::Cost,
         _ => Order::Unknown,
     }
 }

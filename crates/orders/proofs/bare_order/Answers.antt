@@ -30,15 +30,10 @@ pub returns-in-88 : goal.returns-in-88
 unfolding bare_order
 returns-in-88 c = rw c.in-88.is
 
-pub returns-in-75 : goal.returns-in-75
-unfolding bare_order
-returns-in-75 c = rw c.in-75.is
-
 pub returns-in_default : goal.returns-in_default
 unfolding bare_order
 returns-in_default c = let n = c.in_default.in_default-own.rest in
     rw (
-      ne_eqb _ _ n.0.0.0.0.0.0.0.1,
       ne_eqb _ _ n.0.0.0.0.0.0.1,
       ne_eqb _ _ n.0.0.0.0.0.1,
       ne_eqb _ _ n.0.0.0.0.1,
