@@ -119,6 +119,7 @@ pub struct Bench {
 
 // The next line is answered, if one is whole.
 fn turn(
+    rt: &impl Input,
     b: Bench,
     input: &mut [u8],
     line: &mut [u8],
@@ -129,7 +130,7 @@ fn turn(
     let l = b.left;
     let q = l.regs;
     let d = l.desk;
-    let r = console::reader::next_line(b.reader, input, line, out, d.held);
+    let r = console::reader::next_line(rt, b.reader, input, line, out, d.held);
     if r.whole {
         let o = order(line, r.length);
         return Bench {
@@ -147,14 +148,21 @@ fn turn(
 }
 
 // A proved loop has to end, and nothing says that a script does: the turns are counted down from a number that no run uses up.
-fn turns(input: &mut [u8], line: &mut [u8], mem: &mut [u16], papers: &mut [u8], out: &mut [u8]) {
+fn turns(
+    rt: &impl Input,
+    input: &mut [u8],
+    line: &mut [u8],
+    mem: &mut [u16],
+    papers: &mut [u8],
+    out: &mut [u8],
+) {
     let mut b = Bench {
         left: console::desk::start(),
         reader: console::reader::start(),
     };
     let mut left = u64::MAX;
     while 0 < left {
-        b = turn(b, input, line, mem, papers, out);
+        b = turn(rt, b, input, line, mem, papers, out);
         if b.reader.ended {
             left = 0;
         } else {
@@ -168,11 +176,11 @@ fn turns(input: &mut [u8], line: &mut [u8], mem: &mut [u16], papers: &mut [u8], 
 
 // A line of 20,001 characters is held, so that a longer one than is lawful is seen; the papers are 4,096 bytes of a glyph table and
 // 8,704 of a sheet.
-fn main() {
+fn main(rt: HostRuntime) {
     let mut input = [0u8; 65536];
     let mut line = [0u8; 20001];
     let mut mem = [0u16; 262144];
     let mut papers = [0u8; 12800];
     let mut out = [0u8; 65536];
-    turns(&mut input, &mut line, &mut mem, &mut papers, &mut out);
+    turns(&rt, &mut input, &mut line, &mut mem, &mut papers, &mut out);
 }

@@ -11,15 +11,16 @@
 
 use decimals::Number;
 use dots::Wiring;
+use std::rt::{Env, Files};
 use wirings::Named;
 
 // Argument i as a number, or the usual one where it is not given.
-fn number_at(i: usize, usual: u32) -> Number {
-    if os::arg_count() <= i {
+fn number_at(rt: &impl Env, i: usize, usual: u32) -> Number {
+    if !outside::is_given(rt, i) {
         return Number::Is(usual);
     }
     let mut text = [0u8; 16];
-    let n = os::arg(i, &mut text);
+    let n = outside::arg(rt, i, &mut text);
     decimals::number_of(&text[..n])
 }
 
@@ -37,23 +38,19 @@ enum Table {
 }
 
 // The bytes of the glyph file that argument i names at the start of a table; one more than 2,048 are read, so that a longer file is seen.
-fn read_glyphs(i: usize, table: &mut [u8]) -> Table {
-    if os::arg_count() <= i {
+fn read_glyphs(rt: &(impl Env + Files), i: usize, table: &mut [u8]) -> Table {
+    if !outside::is_given(rt, i) {
         return Table::Bytes(0);
     }
     let mut name = [0u8; 4096];
-    let n = os::arg(i, &mut name);
+    let n = outside::arg(rt, i, &mut name);
     if n == 0 {
         return Table::Bad;
     }
     if (n == 1) & (name[0] == b'-') {
         return Table::Bytes(0);
     }
-    let fd = os::open_read(&name[..n]);
-    if fd < 0 {
-        return Table::Bad;
-    }
-    let got = io::read_full(fd, table);
+    let got = outside::file(rt, &name[..n], table);
     if got == 0 {
         return Table::Bad;
     }
@@ -103,13 +100,13 @@ fn no_glyphs() {
 }
 
 // The glyphs are read.
-fn picture_in(p: u32, h: u32, words: u32, wiring: Wiring) {
+fn picture_in(rt: &(impl Env + Files), p: u32, h: u32, words: u32, wiring: Wiring) {
     if 262144 < words {
         complain(b"a memory has at most 262144 words");
         return;
     }
     let mut glyphs = [0u8; 2049];
-    let Table::Bytes(read) = read_glyphs(1, &mut glyphs) else {
+    let Table::Bytes(read) = read_glyphs(rt, 1, &mut glyphs) else {
         return no_glyphs();
     };
     let g = buffers::bytes_used(read, &glyphs);
@@ -135,9 +132,9 @@ fn tell(sheet: &[u8], p: u32, h: u32, glyphs: &[u8]) {
 }
 
 // The sheet and the glyphs are read, and the cost is said.
-fn cost_in(p: u32, h: u32) {
+fn cost_in(rt: &(impl Env + Files), p: u32, h: u32) {
     let mut glyphs = [0u8; 2049];
-    let Table::Bytes(read) = read_glyphs(2, &mut glyphs) else {
+    let Table::Bytes(read) = read_glyphs(rt, 2, &mut glyphs) else {
         return no_glyphs();
     };
     let g = buffers::bytes_used(read, &glyphs);
@@ -147,46 +144,46 @@ fn cost_in(p: u32, h: u32) {
 }
 
 // `picture --cost`
-fn cost() {
-    if 5 < os::arg_count() {
+fn cost(rt: &(impl Env + Files)) {
+    if outside::is_given(rt, 5) {
         complain(b"after --cost there are at most three arguments, GLYPHS P H");
         return;
     }
-    let Number::Is(p) = number_at(3, 40) else {
+    let Number::Is(p) = number_at(rt, 3, 40) else {
         return wrong_number();
     };
-    let Number::Is(h) = number_at(4, 400) else {
+    let Number::Is(h) = number_at(rt, 4, 400) else {
         return wrong_number();
     };
-    cost_in(p, h);
+    cost_in(rt, p, h);
 }
 
 // Whether the first argument asks for the cost.
-fn cost_asked() -> bool {
+fn cost_asked(rt: &impl Env) -> bool {
     let mut word = [0u8; 16];
-    let n = os::arg(1, &mut word);
+    let n = outside::arg(rt, 1, &mut word);
     check::same(&word[..n], b"--cost")
 }
 
-fn main() {
-    if cost_asked() {
-        return cost();
+fn main(rt: HostRuntime) {
+    if cost_asked(&rt) {
+        return cost(&rt);
     }
-    if 6 < os::arg_count() {
+    if outside::is_given(&rt, 6) {
         complain(b"there are at most five arguments, GLYPHS P H WORDS WIRING");
         return;
     }
-    let Number::Is(p) = number_at(2, 40) else {
+    let Number::Is(p) = number_at(&rt, 2, 40) else {
         return wrong_number();
     };
-    let Number::Is(h) = number_at(3, 400) else {
+    let Number::Is(h) = number_at(&rt, 3, 400) else {
         return wrong_number();
     };
-    let Number::Is(words) = number_at(4, 16384) else {
+    let Number::Is(words) = number_at(&rt, 4, 16384) else {
         return wrong_number();
     };
-    let Named::Is(wiring) = wirings::wiring_at(5) else {
+    let Named::Is(wiring) = wirings::wiring_at(&rt, 5) else {
         return wrong_wiring();
     };
-    picture_in(p, h, words, wiring);
+    picture_in(&rt, p, h, words, wiring);
 }

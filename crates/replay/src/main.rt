@@ -16,6 +16,7 @@ use dots::Wiring;
 use events::Event;
 use log::Tally;
 use registers::Registers;
+use std::rt::Env;
 use wirings::Named;
 
 mod log;
@@ -48,8 +49,8 @@ fn read(t: Tally, r: Reader, line: &[u8]) -> Told {
 }
 
 // The next line, if one is whole; else more of the record is read, which says nothing yet.
-fn next(t: Told, input: &mut [u8], line: &mut [u8]) -> Told {
-    let r = console::reader::next_line(t.reader, input, line, &[], 0);
+fn next(rt: &impl Input, t: Told, input: &mut [u8], line: &mut [u8]) -> Told {
+    let r = console::reader::next_line(rt, t.reader, input, line, &[], 0);
     if r.whole {
         return read(t.tally, r, line);
     }
@@ -134,12 +135,19 @@ fn fresh_on(plane: Plane) -> Registers
 }
 
 // A proved loop has to end, and nothing says that a record does: the turns are counted down from a number that no run uses up.
-fn turns(input: &mut [u8], line: &mut [u8], plane: Plane, mem: &mut [u16], room: &mut [u8]) {
+fn turns(
+    rt: &impl Input,
+    input: &mut [u8],
+    line: &mut [u8],
+    plane: Plane,
+    mem: &mut [u16],
+    room: &mut [u8],
+) {
     let mut regs = fresh_on(plane);
     let mut told = start();
     let mut left = u64::MAX;
     while 0 < left {
-        told = next(told, input, line);
+        told = next(rt, told, input, line);
         let list = asked(told);
         let q = replaying::replay(regs, &list, mem);
         regs = q.regs;
@@ -151,23 +159,23 @@ fn turns(input: &mut [u8], line: &mut [u8], plane: Plane, mem: &mut [u16], room:
 
 // A line's first 81 characters are held: they say what the line says (`held_decides`, crate events). The largest picture has 524,288
 // bytes.
-fn replay_in(plane: Plane, mem: &mut [u16]) {
+fn replay_in(rt: &impl Input, plane: Plane, mem: &mut [u16]) {
     let mut input = [0u8; 65536];
     let mut line = [0u8; 81];
     let mut room = [0u8; 524288];
-    turns(&mut input, &mut line, plane, mem, &mut room);
+    turns(rt, &mut input, &mut line, plane, mem, &mut room);
 }
 
 // The memory has so many words.
-fn replay_at(plane: Plane, words: u32, mem: &mut [u16]) {
+fn replay_at(rt: &impl Input, plane: Plane, words: u32, mem: &mut [u16]) {
     let w = buffers::words_used(words as usize, mem);
-    replay_in(plane, &mut mem[..w]);
+    replay_in(rt, plane, &mut mem[..w]);
 }
 
 // It is a memory of zeros.
-fn replay_with(plane: Plane, words: u32) {
+fn replay_with(rt: &impl Input, plane: Plane, words: u32) {
     let mut mem = [0u16; 262144];
-    replay_at(plane, words, &mut mem);
+    replay_at(rt, plane, words, &mut mem);
 }
 
 // The number with which a plane and a memory, so wired, are refused, or 0.
@@ -187,36 +195,36 @@ fn plane_refused(wiring: Wiring, p: u32, h: u32, words: u32) -> u8
 }
 
 // An argument as a number.
-fn number_at(i: usize) -> Number {
+fn number_at(rt: &impl Env, i: usize) -> Number {
     let mut text = [0u8; 16];
-    let n = os::arg(i, &mut text);
+    let n = outside::arg(rt, i, &mut text);
     decimals::number_of(&text[..n])
 }
 
 // The plane and the memory are there, or are refused.
-fn replay_on(plane: Plane, words: u32) {
+fn replay_on(rt: &impl Input, plane: Plane, words: u32) {
     let wiring = plane.wiring;
     let n = plane_refused(wiring, plane.across, plane.down, words);
     if n != 0 {
         return log::refused_plane(n);
     }
-    replay_with(plane, words);
+    replay_with(rt, plane, words);
 }
 
-fn main() {
-    if (os::arg_count() < 4) | (5 < os::arg_count()) {
+fn main(rt: HostRuntime) {
+    if !outside::is_given(&rt, 3) | outside::is_given(&rt, 5) {
         return log::usage();
     }
-    let Number::Is(p) = number_at(1) else {
+    let Number::Is(p) = number_at(&rt, 1) else {
         return log::usage();
     };
-    let Number::Is(h) = number_at(2) else {
+    let Number::Is(h) = number_at(&rt, 2) else {
         return log::usage();
     };
-    let Number::Is(words) = number_at(3) else {
+    let Number::Is(words) = number_at(&rt, 3) else {
         return log::usage();
     };
-    let Named::Is(wiring) = wirings::wiring_at(4) else {
+    let Named::Is(wiring) = wirings::wiring_at(&rt, 4) else {
         return log::usage();
     };
     let plane = Plane {
@@ -224,5 +232,5 @@ fn main() {
         down: h,
         wiring: wiring,
     };
-    replay_on(plane, words);
+    replay_on(&rt, plane, words);
 }
