@@ -5,10 +5,10 @@ ghost use Rattle.console.specs.Upper.{upper_of};
 
 use crate::desk::Reply;
 
-// What is held is written out.
-pub fn flush(out: &[u8], held: usize) {
+// What is held is written out: whether all of it was taken.
+pub fn flush(out: &[u8], held: usize) -> bool {
     let n = buffers::bytes_used(held, out);
-    io::write_all(1, &out[..n]);
+    io::write_all(1, &out[..n])
 }
 
 // One character more; a full buffer is written out first.

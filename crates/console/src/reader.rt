@@ -95,6 +95,18 @@ fn refill(rt: &impl Input, r: Reader, input: &mut [u8]) -> Reader {
     }
 }
 
+// Where nobody takes the answers the script is not read on: its end.
+fn unheard(r: Reader) -> Reader {
+    Reader {
+        at: 0,
+        filled: 0,
+        length: r.length,
+        whole: false,
+        closed: true,
+        ended: true,
+    }
+}
+
 // The next line, if one is whole; else more of the script is read, with all answers written out before.
 pub fn next_line(
     rt: &impl Input,
@@ -108,6 +120,8 @@ pub fn next_line(
     if q.whole {
         return q;
     }
-    crate::output::flush(out, held);
+    if !crate::output::flush(out, held) {
+        return unheard(q);
+    }
     refill(rt, q, input)
 }

@@ -1,7 +1,6 @@
 -- What a sheet costs is what demand 3's run reports: `shown` counts a unit for each entry and for each dot, and the call counts the
 -- same figures (`figures_same`). The bound holds figure by figure, since each lies in the plane: a line has no more dots than the longer
--- side, a border
--- no more than go round the plane, nor has a circle; a glyph is at most 128 dots wide and high.
+-- side, a border no more than go round the plane, nor has a circle; a glyph is at most 128 dots wide and high.
 use mathlib.Core.Path.{◌≡◌, sym, ap, ◌∙◌}
 use mathlib.Core.Bool.{Bool, true, false, cond, ◌||◌}
 use mathlib.Core.List.{List, [], ◌∷◌}

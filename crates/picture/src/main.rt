@@ -1,6 +1,5 @@
 // Draws a sheet: the sheet on standard input, the picture as a portable bitmap (PBM, P4) on standard output. Or says what it costs:
-// figures,
-// entries, dots, and the time that the chip takes for them, in one line on standard output, and draws nothing.
+// figures, entries, dots, and the time that the chip takes for them, in one line on standard output, and draws nothing.
 //
 //     picture [GLYPHS [P [H [WORDS [WIRING]]]]] < SHEET > PICTURE
 //     picture --cost [GLYPHS [P [H]]] < SHEET

@@ -40,17 +40,16 @@ fn say(text: &[u8]) -> bool {
     io::write_all(2, text)
 }
 
-fn say_line(t: Tally) {
-    say(b"replay: line ");
-    io::print_decimal(2, t.line);
-    say(b": ");
+// Which line it is about, and whether that could be said: where nobody reads, the record is not read on (as for the pictures).
+fn say_line(t: Tally) -> bool {
+    say(b"replay: line ") & io::print_decimal(2, t.line) & say(b": ")
 }
 
 // An entry was taken, and units were done after it; or its port refused it.
 fn entry(t: Tally, number: u8, units: u64) -> Tally {
     let mut n = t;
     if number != 0 {
-        say_line(t);
+        n.broken = !say_line(t);
         sentences::say_refusal(2, number, 0, 0);
         n.refused = wrapping_add_u64(t.refused, 1);
         return n;
@@ -83,11 +82,11 @@ pub fn picture(t: Tally, written: bool) -> Tally {
 
 // A line was no event.
 fn unknown(t: Tally) -> Tally {
-    say_line(t);
+    let mut n = t;
+    n.broken = !say_line(t);
     say(
         b"no event (C or P with a byte in two hexadecimal digits, U with a decimal number, F, # with a comment)\n",
     );
-    let mut n = t;
     n.unknown = wrapping_add_u64(t.unknown, 1);
     n
 }
