@@ -129,24 +129,24 @@ static void costs(uint32_t p, uint32_t h, size_t l, size_t g, unsigned number, u
     is(c.figures, number ? 0 : l == 512 ? sheet[2] : sheet[2] + sheet[514], "its figures", line);
 }
 
-// the translation sent to a fresh controller, which runs to its end; its units were told
-static void draw(void) {
+// the translation, with so many bytes of glyphs, sent to a fresh controller, which runs to its end; its units were told
+static void draw(size_t g) {
     uint64_t units = 0;
     start();
-    IS(translate(40, 400, 512, 2048, 17000), 0);
+    IS(translate(40, 400, 512, g, 17000), 0);
     for (uint32_t i = 0; i < t.first; i++) {
         if (r.buffer.count == 16) units += run(1000000).count;
         IS(out[i] & 256 ? command((uint8_t)out[i]) : parameter((uint8_t)out[i]), 0);
     }
     struct kranichseil_report end = run(1000000);
     IS(end.why, 2);
-    costs(40, 400, 512, 2048, 0, t.first, 0, units + end.count, __LINE__);
+    costs(40, 400, 512, g, 0, t.first, 0, units + end.count, __LINE__);
 }
 static int dot(int x, int y) { return memory[40 * y + x / 16] >> x % 16 & 1; }
 
 // the dots of a circle: for each i those that lie out[i] out, in all eight octants
 static void circle(const char *bytes, int x, int y, const char *lies, int n, int count) {
-    record(bytes); draw(); IS(dots(), count);
+    record(bytes); draw(0); IS(dots(), count);
     for (int i = 0; i < n; i++) for (int s = 0; s < 8; s++) {
         int a = s & 1 ? i : -i, b = s & 2 ? lies[i] : -lies[i];
         IS(s & 4 ? dot(x + a, y + b) : dot(x + b, y + a), 1);
@@ -162,13 +162,13 @@ static void sheets(void) {
     memset(out, 0xEE, sizeof out);
     IS(translate(40, 400, 512, 0, 17000), 0); IS(t.first, 13); IS(t.second, 0); IS(memcmp(out, listing, sizeof listing), 0);
     IS(out[13], 0xEEEE);
-    draw(); IS(dots(), 1); IS(dot(17, 2), 1);
+    draw(0); IS(dots(), 1); IS(dot(17, 2), 1);
     static const int row8[6] = {0, 0, 1, 1, 2, 2};                         // K8
-    record("\x02\x03\x00\x00\x00\x00\x05\x00\x02\x00"); draw(); IS(dots(), 6);
+    record("\x02\x03\x00\x00\x00\x00\x05\x00\x02\x00"); draw(0); IS(dots(), 6);
     for (int x = 0; x < 6; x++) IS(dot(x, row8[x]), 1);
-    record("\x02\x03\x00\x00\x00\x00\x02\x00\x01\x00"); draw(); IS(dots(), 3); IS(dot(1, 1), 1);   // K9
-    record("\x02\x03\x02\x00\x01\x00\x00\x00\x00\x00"); draw(); IS(dots(), 3); IS(dot(1, 0), 1);   // K10
-    record("\x03\x01\x00\x00\x00\x00\x03\x00\x00\x00"); draw(); IS(dots(), 4);                     // a flat rectangle, COMPLEMENT
+    record("\x02\x03\x00\x00\x00\x00\x02\x00\x01\x00"); draw(0); IS(dots(), 3); IS(dot(1, 1), 1);   // K9
+    record("\x02\x03\x02\x00\x01\x00\x00\x00\x00\x00"); draw(0); IS(dots(), 3); IS(dot(1, 0), 1);   // K10
+    record("\x03\x01\x00\x00\x00\x00\x03\x00\x00\x00"); draw(0); IS(dots(), 4);                     // a flat rectangle, COMPLEMENT
     for (int x = 0; x < 4; x++) IS(dot(x, 0), 1);
     circle("\x05\x03\x14\x00\x0A\x00\x05\x00\x00\x00", 20, 10, "\5\5\5\4", 4, 28);               // M-100: radius 5, SET
     IS(translate(40, 400, 512, 0, 17000), 0); IS(t.first, 163); IS(memcmp(out + 63, up, sizeof up), 0);
@@ -177,7 +177,7 @@ static void sheets(void) {
 }
 
 // ---- what a sheet costs (02, M-106), said and drawn
-#define COSTS(bytes, entries, dots) (record(bytes), costs(40, 400, 512, 2048, 0, entries, 0, (entries) + (dots), __LINE__), draw())
+#define COSTS(bytes, entries, dots) (record(bytes), costs(40, 400, 512, 2048, 0, entries, 0, (entries) + (dots), __LINE__), draw(2048))
 static void told(void) {
     COSTS("\x01\x03\x11\x00\x02\x00\x00\x00\x00\x00", 13, 1);
     COSTS("\x02\x03\x11\x00\x02\x00\x11\x00\x02\x00", 21, 1);          // a line of one dot
@@ -195,7 +195,7 @@ static void told(void) {
     COSTS("\x05\x03\x14\x00\x0A\x00\x05\x00\x00\x00", 163, 28);
     record("\x01\x03\x11\x00\x02\x00\x00\x00\x00\x00");
     memset(sheet + 4, 0, 10); sheet[2] = 0; check_word(0);                // PITCH alone
-    costs(40, 400, 512, 2048, 0, 2, 0, 2, __LINE__); draw();
+    costs(40, 400, 512, 2048, 0, 2, 0, 2, __LINE__); draw(2048);
 }
 
 // ---- refusals 1 to 6

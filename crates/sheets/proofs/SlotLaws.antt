@@ -131,6 +131,14 @@ module _ (s : List ℕ) (m : Room) (n k : ℕ) where
     unfolding figures_from
     count_ends h = let e : 50 * n - k ≡ zero = omega arith in rw e (omega (arith, adds [] []))
 
+  -- .. and of the entries needed
+  pub need_goes_on : {x : ℕ} (need : ℕ) → k < 50 * n → x ≡ sized (slot_figures s m k)
+      → need + sized (figures_from s m (50 * n - k) k) ≡ need + x + sized (figures_from s m (50 * n - (k + 1)) (k + 1))
+  need_goes_on need h q = count_goes_on sized sized_append need h q
+
+  pub need_ends : (need : ℕ) → 50 * n ≤ k → need + sized (figures_from s m (50 * n - k) k) ≡ need
+  need_ends need h = count_ends sized sized_append need h
+
 -- ---- a slot is put
 module _ (t : List ℕ) (p : ℕ) (o : List ℕ) (at : ℕ) where
   pub put_none : {f : List Record} → f ≡ [] → (0 ≡ sized f) × (o ≡ placed o at (translated t p f))

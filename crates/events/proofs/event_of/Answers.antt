@@ -1,4 +1,6 @@
 -- `event_of` gives `event_of`: the same tests.
+use native.Mathlib.Omega.{arith}
+use lib.ListN.{length}
 use borrow.Author.Tests.{eq-eqb, ne_eqb, lt-ltb, le-ltb}
 use lib.Seq.{length-take-le}
 use mathlib.Core.Path.{sym}
@@ -28,5 +30,5 @@ returns c =
       c.span_of-n.ensures.1,
       ne_eqb _ 0 c.if-s-eq0.false,
       ne_eqb _ 35 c.if-s-eq35.false,
-      le-ltb 80 _ c.if-s-gt80.false,
+      le-ltb 80 (length c.args.s.now) (omega arith),
     )

@@ -1,4 +1,6 @@
 -- `begin_arc` is the definition, by whether the arc has a dot to draw.
+use Prim.Native.Nat.{◌≤◌}
+use native.Mathlib.Omega.{arith}
 use Rattle.arcs.proofs.RunningLaws.{arc_begins, arc_passes}
 use Rattle.passes.proofs.begin_arc.Goals as goal
 
@@ -10,7 +12,8 @@ returns-then-arc_cycles_of-gt0 c =
 
 pub returns : goal.returns
 returns c =
+    let none : c.arc_cycles_of.result ≤ 0 = omega arith in
     arc_passes _ c.arc_cycles_of.ensures
     c.copy-a.ensures
-    c.if-arc_cycles_of-gt0.false
+    none
     c.pass-m.ensures

@@ -1,4 +1,6 @@
 -- `place_on` is the definition, by D's sign.
+use Prim.Native.Nat.{◌<◌}
+use native.Mathlib.Omega.{arith}
 use Rattle.passes.proofs.PlaceLaws.{turned, went_straight}
 use Rattle.passes.proofs.place_on.Goals as goal
 
@@ -11,5 +13,6 @@ returns-then-d-ge-SIGN c =
 
 pub returns : goal.returns
 returns c =
+    let plus : c.wrapping_add_u64-d.result < 9223372036854775808 = omega arith in
     went_straight _ _ c.wrapping_add_u64-d.ensures.value c.wrapping_add_u64-gain.ensures.value
-    c.wrapping_add_u64-2.ensures.value c.keep-at-2.ensures c.if-d-ge-SIGN.false
+    c.wrapping_add_u64-2.ensures.value c.keep-at-2.ensures plus

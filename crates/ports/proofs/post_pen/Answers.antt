@@ -1,4 +1,5 @@
 -- `post_pen` refuses an unsound set, and else is the definition (`turned_away`, `let_through`).
+use native.Mathlib.Omega.{arith}
 use Rattle.dots.specs.Step.{addresses}
 use Rattle.ports.proofs.PortLaws.{turned_away, let_through}
 use Rattle.ports.specs.Port.{pen_posted}
@@ -20,6 +21,6 @@ unfolding pen_posted
 returns c =
     let_through _ _ c.sound.ensures (c.if-not-sound.false)
     (rw (
-      lt-leb addresses c.args.address c.if-address-ge-ADDRESSES.false,
+      lt-leb addresses c.args.address (omega arith),
       ← c.put_pen.ensures,
     ) c.grant.ensures)

@@ -1,4 +1,5 @@
 -- `queue_or_3` is the definition: full, or room.
+use native.Mathlib.Omega.{arith}
 use Rattle.ports.specs.Port.{queued_or3}
 use borrow.Author.Tests.{le-leb, lt-leb}
 use Rattle.ports.proofs.queue_or_3.Goals as goal
@@ -10,5 +11,5 @@ returns-then-r-ge-PLACES c = rw (le-leb 16 c.args.r.buffer.count c.if-r-ge-PLACE
 pub returns : goal.returns
 unfolding queued_or3
 returns c =
-    rw (lt-leb 16 c.args.r.buffer.count c.if-r-ge-PLACES.false, ← c.queue.ensures)
+    rw (lt-leb 16 c.args.r.buffer.count (omega arith), ← c.queue.ensures)
     c.grant.ensures

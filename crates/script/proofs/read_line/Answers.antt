@@ -1,4 +1,6 @@
 -- `read_line` gives `line_of`: the same tests.
+use native.Mathlib.Omega.{arith}
+use lib.ListN.{length}
 use borrow.Author.Tests.{eq-eqb, ne_eqb, lt-ltb, le-ltb}
 use Rattle.script.proofs.LineLaws.{to_end}
 use Rattle.script.specs.Line.{line_of}
@@ -15,14 +17,14 @@ returns-then-s-gt20000 c = rw (ne_eqb _ 0 c.if-s-eq0.false, lt-ltb 20000 _ c.if-
 pub returns-then-s-eq1 : goal.returns-then-s-eq1
 unfolding line_of
 returns-then-s-eq1 c =
-    rw (ne_eqb _ 0 c.if-s-eq0.false, le-ltb 20000 _ c.if-s-gt20000.false, eq-eqb _ 1 c.if-s-eq1.true)
+    rw (ne_eqb _ 0 c.if-s-eq0.false, le-ltb 20000 (length c.args.s.now) (omega arith), eq-eqb _ 1 c.if-s-eq1.true)
 
 pub returns-then-s-ne32 : goal.returns-then-s-ne32
 unfolding line_of
 returns-then-s-ne32 c =
     rw (
       ne_eqb _ 0 c.if-s-eq0.false,
-      le-ltb 20000 _ c.if-s-gt20000.false,
+      le-ltb 20000 (length c.args.s.now) (omega arith),
       ne_eqb _ 1 c.if-s-eq1.false,
       ne_eqb _ 32 c.if-s-ne32.true,
     )
@@ -32,7 +34,7 @@ unfolding line_of
 returns-then-letter-eq71 c =
     rw (
       ne_eqb _ 0 c.if-s-eq0.false,
-      le-ltb 20000 _ c.if-s-gt20000.false,
+      le-ltb 20000 (length c.args.s.now) (omega arith),
       ne_eqb _ 1 c.if-s-eq1.false,
       eq-eqb _ 32 c.if-s-ne32.false,
       eq-eqb _ 71 c.if-letter-eq71.true,
@@ -43,7 +45,7 @@ unfolding line_of
 returns-then-letter-eq66 c =
     rw (
       ne_eqb _ 0 c.if-s-eq0.false,
-      le-ltb 20000 _ c.if-s-gt20000.false,
+      le-ltb 20000 (length c.args.s.now) (omega arith),
       ne_eqb _ 1 c.if-s-eq1.false,
       eq-eqb _ 32 c.if-s-ne32.false,
       ne_eqb _ 71 c.if-letter-eq71.false,
@@ -57,7 +59,7 @@ returns c =
       c.fields.ensures,
       to_end,
       ne_eqb _ 0 c.if-s-eq0.false,
-      le-ltb 20000 _ c.if-s-gt20000.false,
+      le-ltb 20000 (length c.args.s.now) (omega arith),
       ne_eqb _ 1 c.if-s-eq1.false,
       eq-eqb _ 32 c.if-s-ne32.false,
       ne_eqb _ 71 c.if-letter-eq71.false,

@@ -3,7 +3,7 @@
 -- the last entry or before one that does more.
 use native.Mathlib.Omega.{arith}
 use mathlib.Core.Path.{refl, sym, ap, ◌∙◌}
-use Rattle.settings.specs.Put.{set_cursor, set_pitch, set_drawing, set_ram, set_zoom}
+use Rattle.settings.specs.Put.{set_pitch, set_drawing, set_ram, set_zoom}
 use Rattle.settings.proofs.CommandLaws.{not_setting, settable_parameter}
 use Rattle.settings.proofs.DataLaws.{none_before, all_before}
 use Rattle.settings.proofs.SettleLaws.{Onward, counting, by_command, by_parameter, by_data, data_counted, settle_ended, settle_past}
@@ -31,9 +31,9 @@ turn c =
       | else-e-ge256+in-Figs w ↦ by_parameter _ _ _ _ _ more ok w.at-is w.if-e-ge256.false w.in-Figs.is w.next_of-next.ensures w.mem-is
           (w.p-is ∙ ap (set_drawing (counting p w.next_of-next.result)) w.figs_byte-p.ensures) refl
       | else-e-ge256+in-Curs w ↦ by_parameter _ _ _ _ _ more ok w.at-is w.if-e-ge256.false w.in-Curs.is w.next_of-next.ensures w.mem-is
-          (w.p-is ∙ ap (set_cursor (counting p w.next_of-next.result)) w.curs_byte-p.ensures) refl
+          (cc) refl
       | else-e-ge256+in-Mask w ↦ by_parameter _ _ _ _ _ more ok w.at-is w.if-e-ge256.false w.in-Mask.is w.next_of-next.ensures w.mem-is
-          (w.p-is ∙ ap (set_cursor (counting p w.next_of-next.result)) w.mask_byte-p.ensures) refl
+          (cc) refl
       | else-e-ge256+in-Pram w ↦ by_parameter _ _ _ _ _ more ok w.at-is w.if-e-ge256.false w.in-Pram.is w.next_of-next.ensures w.mem-is
           (w.p-is ∙ ap (set_ram (counting p w.next_of-next.result)) w.ram_put.ensures) refl
       | else-e-ge256+in-Zoom w ↦ by_parameter _ _ _ _ _ more ok w.at-is w.if-e-ge256.false w.in-Zoom.is w.next_of-next.ensures w.mem-is
