@@ -3,7 +3,7 @@ use events::Event;
 use std::num::wrapping_add_u64;
 
 // The line that is read; the bytes that the chip took and those that a port refused; the units, the pictures, the lines that are no event;
-// whether a U has come, and whether the output takes no more.
+// whether a U has come, whether the output takes no more, and whether the last line could not be spoken of.
 #[derive(Clone, Copy)]
 pub struct Tally {
     pub line: u64,
@@ -14,6 +14,7 @@ pub struct Tally {
     pub unknown: u64,
     pub by_units: bool,
     pub broken: bool,
+    pub unsaid: bool,
 }
 
 pub fn start() -> Tally {
@@ -26,6 +27,7 @@ pub fn start() -> Tally {
         unknown: 0,
         by_units: false,
         broken: false,
+        unsaid: false,
     }
 }
 
@@ -40,7 +42,7 @@ fn say(text: &[u8]) -> bool {
     io::write_all(2, text)
 }
 
-// Which line it is about, and whether that could be said: where nobody reads, the record is not read on (as for the pictures).
+// Which line it is about, and whether that could be said.
 fn say_line(t: Tally) -> bool {
     say(b"replay: line ") & io::print_decimal(2, t.line) & say(b": ")
 }
@@ -49,7 +51,7 @@ fn say_line(t: Tally) -> bool {
 fn entry(t: Tally, number: u8, units: u64) -> Tally {
     let mut n = t;
     if number != 0 {
-        n.broken = !say_line(t);
+        n.unsaid = !say_line(t);
         sentences::say_refusal(2, number, 0, 0);
         n.refused = wrapping_add_u64(t.refused, 1);
         return n;
@@ -83,11 +85,19 @@ pub fn picture(t: Tally, written: bool) -> Tally {
 // A line was no event.
 fn unknown(t: Tally) -> Tally {
     let mut n = t;
-    n.broken = !say_line(t);
+    n.unsaid = !say_line(t);
     say(
         b"no event (C or P with a byte in two hexadecimal digits, U with a decimal number, F, # with a comment)\n",
     );
     n.unknown = wrapping_add_u64(t.unknown, 1);
+    n
+}
+
+// What could not be said is let be; where nobody reads what is said the record is not read on.
+pub fn unheard(t: Tally, gone: bool) -> Tally {
+    let mut n = t;
+    n.unsaid = false;
+    n.broken = t.broken | gone;
     n
 }
 

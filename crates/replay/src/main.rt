@@ -16,6 +16,7 @@ use dots::Wiring;
 use events::Event;
 use log::Tally;
 use registers::Registers;
+use std::io::{ErrorKind, Write};
 use std::rt::Env;
 use wirings::Named;
 
@@ -49,7 +50,7 @@ fn read(t: Tally, r: Reader, line: &[u8]) -> Told {
 }
 
 // The next line, if one is whole; else more of the record is read, which says nothing yet.
-fn next(rt: &impl Input, t: Told, input: &mut [u8], line: &mut [u8]) -> Told {
+fn next(rt: &HostRuntime, t: Told, input: &mut [u8], line: &mut [u8]) -> Told {
     let r = console::reader::next_line(rt, t.reader, input, line, &[], 0);
     if r.whole {
         return read(t.tally, r, line);
@@ -134,9 +135,26 @@ fn fresh_on(plane: Plane) -> Registers
     wirings::wired(registers::fresh(), wiring)
 }
 
+// Whether standard error is a pipe that nobody reads any more. A newline is tried, where writing failed before.
+fn is_gone(rt: &HostRuntime) -> bool {
+    match rt.stderr().write(b"\n") {
+        Err(e) => e.kind() == ErrorKind::BrokenPipe,
+        Ok(_) => false,
+    }
+}
+
+// Where a line could not be spoken of, since nobody listens, the record ends.
+fn heard(rt: &HostRuntime, t: Told) -> Told {
+    let mut n = t;
+    if t.tally.unsaid {
+        n.tally = log::unheard(t.tally, is_gone(rt));
+    }
+    n
+}
+
 // A proved loop has to end, and nothing says that a record does: the turns are counted down from a number that no run uses up.
 fn turns(
-    rt: &impl Input,
+    rt: &HostRuntime,
     input: &mut [u8],
     line: &mut [u8],
     plane: Plane,
@@ -151,7 +169,7 @@ fn turns(
         let list = asked(told);
         let q = replaying::replay(regs, &list, mem);
         regs = q.regs;
-        told = done(told, q.number, q.units, plane, mem, room);
+        told = heard(rt, done(told, q.number, q.units, plane, mem, room));
         left = left_after(told, left);
     }
     ended(told.tally, plane, mem, room);
@@ -159,7 +177,7 @@ fn turns(
 
 // A line's first 81 characters are held: they say what the line says (`held_decides`, crate events). The largest picture has 524,288
 // bytes.
-fn replay_in(rt: &impl Input, plane: Plane, mem: &mut [u16]) {
+fn replay_in(rt: &HostRuntime, plane: Plane, mem: &mut [u16]) {
     let mut input = [0u8; 65536];
     let mut line = [0u8; 81];
     let mut room = [0u8; 524288];
@@ -167,13 +185,13 @@ fn replay_in(rt: &impl Input, plane: Plane, mem: &mut [u16]) {
 }
 
 // The memory has so many words.
-fn replay_at(rt: &impl Input, plane: Plane, words: u32, mem: &mut [u16]) {
+fn replay_at(rt: &HostRuntime, plane: Plane, words: u32, mem: &mut [u16]) {
     let w = buffers::words_used(words as usize, mem);
     replay_in(rt, plane, &mut mem[..w]);
 }
 
 // It is a memory of zeros.
-fn replay_with(rt: &impl Input, plane: Plane, words: u32) {
+fn replay_with(rt: &HostRuntime, plane: Plane, words: u32) {
     let mut mem = [0u16; 262144];
     replay_at(rt, plane, words, &mut mem);
 }
@@ -202,7 +220,7 @@ fn number_at(rt: &impl Env, i: usize) -> Number {
 }
 
 // The plane and the memory are there, or are refused.
-fn replay_on(rt: &impl Input, plane: Plane, words: u32) {
+fn replay_on(rt: &HostRuntime, plane: Plane, words: u32) {
     let wiring = plane.wiring;
     let n = plane_refused(wiring, plane.across, plane.down, words);
     if n != 0 {

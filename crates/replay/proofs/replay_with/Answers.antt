@@ -4,4 +4,4 @@ use lib.ListN.{length-replicate}
 use Rattle.replay.proofs.replay_with.Goals as goal
 
 pub slice_bounds-replay_at-end : goal.slice_bounds-replay_at-end
-slice_bounds-replay_at-end g c = sym (length-replicate {A = ℕ} 262144 0)
+slice_bounds-replay_at-end c = sym (length-replicate {A = ℕ} 262144 0)
