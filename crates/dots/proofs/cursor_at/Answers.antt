@@ -4,8 +4,5 @@ use native.Mathlib.Omega.{arith}
 use Rattle.dots.proofs.MaskLaws.{mask_at}
 use Rattle.dots.proofs.cursor_at.Goals as goal
 
-pub offset_bounds-n : goal.offset_bounds-n
-offset_bounds-n c = omega arith
-
 pub returns : goal.returns
 returns c = λ i. record { ead = c.args.a / 16; mask = mask_at (c.args.a % 16) (omega arith) i }

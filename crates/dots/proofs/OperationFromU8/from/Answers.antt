@@ -1,7 +1,7 @@
--- `operation_of` is the definition: at each number it computes; any other differs from each.
+-- `from` is the definition: at each number it computes; any other differs from each.
 use borrow.Author.Tests.{ne_eqb}
 use Rattle.dots.specs.Operation.{operation_of}
-use Rattle.dots.proofs.operation_of.Goals as goal
+use Rattle.dots.proofs.OperationFromU8.from.Goals as goal
 
 pub returns-in-0 : goal.returns-in-0
 unfolding operation_of
