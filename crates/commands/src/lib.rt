@@ -1,19 +1,18 @@
 // Decoding of a command byte.
-#![tactic(auto)]
+#![tactic(auto, unfolding(crate::specs::Decode::command_of, crate::specs::Decode::family_of))]
 
 ghost use Rattle.std.specs.Prelude.{◌≡◌};
-ghost use Rattle.commands.specs.Decode.{family_of, command_of};
+ghost use Rattle.commands.specs.Decode.{command_of};
 
 use registers::{Command, Transfer};
 
-// The command that a byte names.
+// The command that a byte names; four families carry an address or an operation in it.
 pub fn command_of(byte: u8) -> Command
     ensures { result ≡ command_of byte }
 {
     match byte {
         0x00 => Command::Reset,
-        0x6E => Command::Vsync,
-        0x6F => Command::Vsync,
+        0x6E | 0x6F => Command::Vsync,
         0x4B => Command::Cchar,
         0x6B => Command::Start,
         0x46 => Command::Zoom,
@@ -28,25 +27,10 @@ pub fn command_of(byte: u8) -> Command
         0xA0 => Command::Rdat(Transfer::Word),
         0xB0 => Command::Rdat(Transfer::Low),
         0xB8 => Command::Rdat(Transfer::High),
-        _ => family_of(byte),
+        0x70..=0x7F => Command::Pram,
+        0x20..=0x23 => Command::Wdat(Transfer::Word),
+        0x30..=0x33 => Command::Wdat(Transfer::Low),
+        0x38..=0x3B => Command::Wdat(Transfer::High),
+        _ => Command::Unknown,
     }
-}
-
-// The commands whose byte carries an address or an operation.
-fn family_of(byte: u8) -> Command
-    ensures { result ≡ family_of byte }
-{
-    if (0x70 <= byte) & (byte <= 0x7F) {
-        return Command::Pram;
-    }
-    if (0x20 <= byte) & (byte <= 0x23) {
-        return Command::Wdat(Transfer::Word);
-    }
-    if (0x30 <= byte) & (byte <= 0x33) {
-        return Command::Wdat(Transfer::Low);
-    }
-    if (0x38 <= byte) & (byte <= 0x3B) {
-        return Command::Wdat(Transfer::High);
-    }
-    Command::Unknown
 }

@@ -1,4 +1,6 @@
 // The pattern of a graphics character that GCHRD draws.
+#![tactic(auto, unfolding(crate::specs::Character::character_pattern, dots::specs::Bit::bit, registers::specs::Size::factor_of))]
+
 ghost use Rattle.std.specs.Prelude.{◌≡◌, ◌<◌};
 ghost use Rattle.registers.specs.Size.{factor_of};
 ghost use Rattle.figures.specs.Character.{character_pattern};
@@ -8,8 +10,7 @@ fn character_pattern(ram: [u8; 16], g: u32, row: u32, column: u32) -> u16
     requires { 0 < g }
     ensures { result ≡ character_pattern ram g row column }
 {
-    let at = 15 - (row / g % 8) as usize;
-    let byte = ram[at];
+    let byte = ram[15 - (row / g % 8) as usize];
     ((byte as u32 >> (column / g % 8)) % 2 * 65535) as u16
 }
 

@@ -1,4 +1,8 @@
 // The pattern, the steps and the running D of a figure that FIGD draws: dots along a direction, a line, a rectangle.
+#![tactic(auto,
+    unfolding(crate::specs::Figure::pattern_of, crate::specs::Figure::line_direction, crate::specs::Figure::error_after,
+        crate::specs::Figure::side_of, crate::specs::Figure::direction_at, crate::specs::Figure::running_d))]
+
 ghost use Rattle.std.specs.Prelude.{◌≡◌};
 ghost use Rattle.figures.specs.Figure.{
   pattern_of,
@@ -31,18 +35,16 @@ pub fn axis_of(dir: u8) -> u8
     ensures { result ≡ axis_of dir }
 {
     if dir % 2 == 0 {
-        return dir;
+        dir
+    } else {
+        ((dir as u16 + 1) % 8) as u8
     }
-    ((dir as u16 + 1) % 8) as u8
 }
 
 pub fn diagonal_of(dir: u8) -> u8
     ensures { result ≡ diagonal_of dir }
 {
-    if dir % 2 == 0 {
-        return dir + 1;
-    }
-    dir
+    if dir % 2 == 0 { dir + 1 } else { dir }
 }
 
 // A line's move: along the axis where D is negative, else along the diagonal.
@@ -50,9 +52,10 @@ fn line_direction(dir: u8, d: u16) -> u8
     ensures { result ≡ line_direction dir d }
 {
     if SIGN <= d {
-        return axis_of(dir);
+        axis_of(dir)
+    } else {
+        diagonal_of(dir)
     }
-    diagonal_of(dir)
 }
 
 // .. and D after it: the 14-bit sum wraps.
@@ -60,9 +63,10 @@ fn error_after(f: Drawing, d: u16) -> u16
     ensures { result ≡ error_after f d }
 {
     if SIGN <= d {
-        return ((d as u32 + f.d1 as u32) % FOURTEEN_BITS) as u16;
+        ((d as u32 + f.d1 as u32) % FOURTEEN_BITS) as u16
+    } else {
+        ((d as u32 + f.d2 as u32) % FOURTEEN_BITS) as u16
     }
-    ((d as u32 + f.d2 as u32) % FOURTEEN_BITS) as u16
 }
 
 // The side of a rectangle that dot k is on.
@@ -73,36 +77,33 @@ fn side_of(d: u16, d2: u16, k: u32) -> u16
     let second = first + d2 as u32;
     let third = second + d as u32;
     if k < first {
-        return 0;
+        0
+    } else if k < second {
+        2
+    } else if k < third {
+        4
+    } else {
+        6
     }
-    if k < second {
-        return 2;
-    }
-    if k < third {
-        return 4;
-    }
-    6
 }
 
 // The direction of the step after dot k.
 pub fn direction_at(f: Drawing, k: u32, d: u16) -> u8
     ensures { result ≡ direction_at f k d }
 {
-    if f.kind == registers::LINE_KIND {
-        return line_direction(f.dir, d);
+    match f.kind {
+        registers::LINE_KIND => line_direction(f.dir, d),
+        registers::RECTANGLE_KIND => ((f.dir as u32 + side_of(f.d, f.d2, k) as u32) % 8) as u8,
+        _ => f.dir,
     }
-    if f.kind == registers::RECTANGLE_KIND {
-        return ((f.dir as u32 + side_of(f.d, f.d2, k) as u32) % 8) as u8;
-    }
-    f.dir
 }
 
 // The running D after dot k.
 pub fn running_d(f: Drawing, d: u16) -> u16
     ensures { result ≡ running_d f d }
 {
-    if f.kind == registers::LINE_KIND {
-        return error_after(f, d);
+    match f.kind {
+        registers::LINE_KIND => error_after(f, d),
+        _ => d,
     }
-    d
 }

@@ -12,12 +12,8 @@ pub mod figure;
 pub mod reading;
 
 // What is in progress goes on elsewhere.
-pub fn goes_on(r: Registers, c: Cursor, w: Work) -> Registers
-    ensures { result ≡ put_work (put_cursor r c) w }
+pub fn goes_on(r: Registers, cursor: Cursor, work: Work) -> Registers
+    ensures { result ≡ put_work (put_cursor r cursor) work }
 {
-    Registers {
-        cursor: c,
-        work: w,
-        ..r
-    }
+    Registers { cursor, work, ..r }
 }

@@ -1,9 +1,12 @@
 // A read: RDAT's items.
+#![tactic(auto,
+    unfolding(crate::specs::Reading::room_b, crate::specs::Reading::given, crate::specs::Reading::read_on,
+        crate::specs::Reading::item_given, crate::specs::Reading::read_unit))]
+
 ghost use Rattle.std.specs.Prelude.{◌≡◌};
 ghost use Rattle.registers.specs.State.{state};
 ghost use Rattle.figures.specs.Reading.{bytes_of, room_b, given, read_on, item_given, read_unit};
 
-use dots::Cursor;
 use registers::{Buffer, Registers, Transfer, Work};
 
 // The bytes of an item.
@@ -12,8 +15,7 @@ fn bytes_of(t: Transfer) -> u8
 {
     match t {
         Transfer::Word => 2,
-        Transfer::Low => 1,
-        Transfer::High => 1,
+        Transfer::Low | Transfer::High => 1,
     }
 }
 
@@ -36,39 +38,38 @@ pub fn give(t: Transfer, w: u16, b: Buffer) -> Buffer
 }
 
 // The next item, or the read's end.
-pub fn read_on(t: Transfer, i: u16, dc: u16) -> Work
-    ensures { result ≡ read_on t i dc }
+pub fn read_on(transfer: Transfer, i: u16, dc: u16) -> Work
+    ensures { result ≡ read_on transfer i dc }
 {
     if i as u32 + 1 < dc as u32 {
-        return Work::Reading {
+        Work::Reading {
             item: i + 1,
-            transfer: t,
-        };
+            transfer,
+        }
+    } else {
+        Work::Idle
     }
-    Work::Idle
 }
 
 // The item w is given, and EAD moves a whole word.
 fn item_given(r: Registers, i: u16, t: Transfer, w: u16) -> Registers
     ensures { result ≡ item_given i t w r }
 {
-    let held = r.buffer;
-    let mut n = r;
-    let buffer = give(t, w, held);
-    n.buffer = buffer;
-    let c = dots::word_move(r.drawing.dir, r.pitch, r.cursor);
-    super::goes_on(n, c, read_on(t, i, r.drawing.dc))
+    let cursor = dots::word_move(r.drawing.dir, r.pitch, r.cursor);
+    let given = Registers {
+        buffer: give(t, w, r.buffer),
+        ..r
+    };
+    super::goes_on(given, cursor, read_on(t, i, r.drawing.dc))
 }
 
 // One item of a read, if its bytes fit.
 pub fn read_unit(r: Registers, i: u16, t: Transfer, mem: &mut [u16]) -> Registers
     ensures { state result mem.new ≡ read_unit i t (state r mem.old) }
 {
-    let held = r.buffer;
-    let board = r.board;
-    let wiring = board.wiring;
-    if room(t, held) {
-        return item_given(r, i, t, dots::met(mem, wiring, r.cursor.ead));
+    if room(t, r.buffer) {
+        item_given(r, i, t, dots::met(mem, r.board.wiring, r.cursor.ead))
+    } else {
+        r
     }
-    r
 }

@@ -1,6 +1,6 @@
 -- 01, Commands: what the parameter byte v does to a register, i being its place among the command's parameters, from 0. "Parameter
 -- bytes follow 002's layouts and take effect singly as they are taken; surplus ones .. are ignored".
-use Rattle.std.specs.Prelude.{ℕ, ◌+◌, ◌*◌, ◌/◌, ◌%◌, ◌^◌, Bool, cond, eqb, ltb, set}
+use Rattle.std.specs.Prelude.{ℕ, ◌+◌, ◌*◌, ◌/◌, ◌%◌, ◌^◌, Bool, cond, List, length, eqb, ltb, set}
 use Rattle.dots.specs.declared.Cursor.{Cursor}
 use Rattle.registers.specs.declared.Drawing.{Drawing}
 use Rattle.registers.specs.declared.Video.{Video}
@@ -45,6 +45,13 @@ figs_by i v f =
     (cond (eqb i 8) (put_d1 f (high_six f.d1 v))
     (cond (eqb i 9) (put_dm f (low_byte f.dm v))
     (cond (eqb i 10) (put_dm f (high_six f.dm v)) f))))))))))
+
+-- a byte at place i of a list, "surplus ones .. are ignored"; of a register of one byte the first
+abbrev pub put_at : ℕ → ℕ → List ℕ → List ℕ
+put_at i v l = cond (ltb i (length l)) (set l i v) l
+
+abbrev pub first_or : ℕ → ℕ → ℕ → ℕ
+first_or i v held = cond (eqb i 0) v held
 
 -- the sync bytes after RESET, CCHAR's bytes, and ZOOM's byte, stored whole
 unfoldable pub sync_by : ℕ → ℕ → Video → Video

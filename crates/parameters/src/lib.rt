@@ -1,9 +1,12 @@
 // What a parameter byte does to a register: v is the byte, i its place among the command's parameters.
-#![tactic(auto)]
+#![tactic(auto,
+    unfolding(crate::specs::Parameter::curs_by, crate::specs::Parameter::mask_by, crate::specs::Parameter::figs_by,
+        crate::specs::Parameter::sync_by, crate::specs::Parameter::cchar_by, crate::specs::Parameter::zoom_by,
+            crate::specs::Parameter::ram_by, crate::specs::Parameter::pitch_by))]
 
 ghost use Rattle.std.specs.Prelude.{◌≡◌, ◌<◌, ◌^◌};
-ghost use Rattle.parameters.specs.Parameter.{low_byte, high_byte, high_six, curs_by, mask_by, figs_by, sync_by, cchar_by, zoom_by, ram_by};
-ghost use Rattle.parameters.specs.Parameter.{pitch_by};
+ghost use Rattle.parameters.specs.Parameter.{low_byte, high_byte, high_six, curs_by, mask_by, figs_by, put_at, first_or};
+ghost use Rattle.parameters.specs.Parameter.{sync_by, cchar_by, zoom_by, ram_by, pitch_by};
 
 use dots::Cursor;
 use registers::{Drawing, Registers, Video};
@@ -23,11 +26,11 @@ pub fn curs_byte(c: Cursor, i: u8, v: u8) -> Cursor
     match i {
         0 => Cursor {
             ead: c.ead / 256 * 256 + v as u32,
-            mask: c.mask,
+            ..c
         },
         1 => Cursor {
             ead: c.ead / 65536 * 65536 + v as u32 * 256 + c.ead % 256,
-            mask: c.mask,
+            ..c
         },
         2 => Cursor {
             ead: v as u32 % 4 * 65536 + c.ead % 65536,
@@ -62,12 +65,12 @@ pub fn mask_byte(c: Cursor, i: u8, v: u8) -> Cursor
 {
     match i {
         0 => Cursor {
-            ead: c.ead,
             mask: low_byte(c.mask, v),
+            ..c
         },
         1 => Cursor {
-            ead: c.ead,
             mask: high_byte(c.mask, v),
+            ..c
         },
         _ => c,
     }
@@ -128,52 +131,52 @@ pub fn figs_byte(f: Drawing, i: u8, v: u8) -> Drawing
     }
 }
 
+// A byte takes its place among others, if it has one.
+pub fn put_at(to: &mut [u8], i: u8, v: u8)
+    ensures { to.new ≡ put_at i v to.old }
+{
+    let place = i as usize;
+    if place < to.len() {
+        to[place] = v;
+    }
+}
+
+// A register of one byte takes the first, and no other.
+pub fn first_or(i: u8, v: u8, held: u8) -> u8
+    ensures { result ≡ first_or i v held }
+{
+    if i == 0 { v } else { held }
+}
+
 // The sync bytes, CCHAR and ZOOM.
-pub fn sync_byte(w: Video, i: u8, v: u8) -> Video
+pub fn sync_byte(mut w: Video, i: u8, v: u8) -> Video
     ensures { result ≡ sync_by i v w }
 {
-    let at = i as usize;
-    if at < 8 {
-        let mut n = w;
-        n.sync[at] = v;
-        return n;
-    }
+    put_at(&mut w.sync, i, v);
     w
 }
 
-pub fn cchar_byte(w: Video, i: u8, v: u8) -> Video
+pub fn cchar_byte(mut w: Video, i: u8, v: u8) -> Video
     ensures { result ≡ cchar_by i v w }
 {
-    let at = i as usize;
-    if at < 3 {
-        let mut n = w;
-        n.cchar[at] = v;
-        return n;
-    }
+    put_at(&mut w.cchar, i, v);
     w
 }
 
 pub fn zoom_byte(w: Video, i: u8, v: u8) -> Video
     ensures { result ≡ zoom_by i v w }
 {
-    if i == 0 {
-        let mut n = w;
-        n.zoom = v;
-        return n;
+    Video {
+        zoom: first_or(i, v, w.zoom),
+        ..w
     }
-    w
 }
 
 // PRAM.
-pub fn ram_byte(r: Registers, i: u8, v: u8) -> Registers
+pub fn ram_byte(mut r: Registers, i: u8, v: u8) -> Registers
     ensures { result ≡ ram_by i v r }
 {
-    let at = i as usize;
-    if at < 16 {
-        let mut n = r;
-        n.ram[at] = v;
-        return n;
-    }
+    put_at(&mut r.ram, i, v);
     r
 }
 
@@ -181,10 +184,8 @@ pub fn ram_byte(r: Registers, i: u8, v: u8) -> Registers
 pub fn pitch_byte(r: Registers, i: u8, v: u8) -> Registers
     ensures { result ≡ pitch_by i v r }
 {
-    if i == 0 {
-        let mut n = r;
-        n.pitch = v;
-        return n;
+    Registers {
+        pitch: first_or(i, v, r.pitch),
+        ..r
     }
-    r
 }

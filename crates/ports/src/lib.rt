@@ -1,5 +1,7 @@
 // The two ports, the status read at one, and the light pen.
-#![tactic(auto)]
+#![tactic(auto,
+    unfolding(crate::specs::Port::queued_or3, crate::specs::Port::command_written, crate::specs::Port::parameter_written,
+        crate::specs::Port::byte_read, crate::specs::Port::status_read, crate::specs::Port::pen_posted))]
 
 ghost use Rattle.std.specs.Prelude.{◌≡◌, ◌&&◌, ◌+◌, ◌*◌, eqb, ltb};
 ghost use Rattle.registers.specs.Width.{places};
@@ -22,7 +24,7 @@ ghost use Rattle.ports.specs.Port.{
   pen_posted,
 };
 
-use registers::{Mode, Registers, Work};
+use registers::{Mode, Pen, Registers, Work};
 
 // What a port answers: a number of refusal, the byte read, and the registers.
 #[derive(Clone, Copy)]
@@ -32,24 +34,24 @@ pub struct Answer {
     pub regs: Registers,
 }
 
-fn grant(value: u8, r: Registers) -> Answer
-    ensures { result ≡ granted value r }
+fn grant(value: u8, regs: Registers) -> Answer
+    ensures { result ≡ granted value regs }
 {
     Answer {
         number: 0,
-        value: value,
-        regs: r,
+        value,
+        regs,
     }
 }
 
 // A refusal: the set given, and 0.
-fn refuse(number: u8, r: Registers) -> Answer
-    ensures { result ≡ refused number r }
+fn refuse(number: u8, regs: Registers) -> Answer
+    ensures { result ≡ refused number regs }
 {
     Answer {
-        number: number,
+        number,
         value: 0,
-        regs: r,
+        regs,
     }
 }
 
@@ -57,11 +59,10 @@ fn refuse(number: u8, r: Registers) -> Answer
 fn queue(r: Registers, e: u16) -> Registers
     ensures { result ≡ queued r e }
 {
-    let held = r.buffer;
-    let mut n = r;
-    let next = registers::push(held, e);
-    n.buffer = next;
-    n
+    Registers {
+        buffer: registers::push(r.buffer, e),
+        ..r
+    }
 }
 
 // Write mode, with all read data discarded and the read ended.
@@ -89,8 +90,7 @@ fn queue_or_3(r: Registers, e: u16) -> Answer
 fn command_in(r: Registers, byte: u8) -> Answer
     ensures { result ≡ command_in r.mode r byte }
 {
-    let mode = r.mode;
-    match mode {
+    match r.mode {
         Mode::Write => queue_or_3(r, byte as u16 + registers::COMMAND_MARK),
         Mode::Read => grant(
             0,
@@ -115,8 +115,7 @@ pub fn write_command(r: Registers, byte: u8) -> Answer
 fn parameter_in(r: Registers, byte: u8) -> Answer
     ensures { result ≡ parameter_in r.mode r byte }
 {
-    let mode = r.mode;
-    match mode {
+    match r.mode {
         Mode::Write => queue_or_3(r, byte as u16),
         Mode::Read => refuse(4, r),
     }
@@ -136,26 +135,21 @@ pub fn write_parameter(r: Registers, byte: u8) -> Answer
 fn drop_oldest(r: Registers) -> Registers
     ensures { result ≡ put_buffer r (popped r.buffer) }
 {
-    let held = r.buffer;
-    let mut n = r;
-    let rest = registers::pop(held);
-    n.buffer = rest;
-    n
+    Registers {
+        buffer: registers::pop(r.buffer),
+        ..r
+    }
 }
 
 fn byte_in(r: Registers) -> Answer
     ensures { result ≡ byte_in r.mode r }
 {
-    let mode = r.mode;
-    match mode {
-        Mode::Write => refuse(5, r),
-        Mode::Read => {
-            if r.buffer.count == 0 {
-                return refuse(5, r);
-            }
-            let held = r.buffer;
-            grant((registers::oldest_of(held) % 256) as u8, drop_oldest(r))
+    match r.mode {
+        Mode::Read if 0 < r.buffer.count => {
+            let oldest = registers::oldest_of(r.buffer);
+            grant((oldest % 256) as u8, drop_oldest(r))
         }
+        Mode::Read | Mode::Write => refuse(5, r),
     }
 }
 
@@ -183,10 +177,10 @@ pub fn read_status(r: Registers) -> Answer
 fn put_pen(r: Registers, address: u32) -> Registers
     ensures { result ≡ pen_put r address }
 {
-    let mut n = r;
-    n.pen.address = address;
-    n.pen.set = true;
-    n
+    Registers {
+        pen: Pen { address, set: true },
+        ..r
+    }
 }
 
 // A light-pen address is posted.

@@ -1,5 +1,5 @@
 -- 01, Commands: what a command byte does when it is taken from the buffer.
-use Rattle.std.specs.Prelude.{ℕ, ◌/◌, ◌%◌, Bool, true, false, cond, ◌&&◌, List, [], ◌∷◌, ◌++◌, eqb, ltb, replicate}
+use Rattle.std.specs.Prelude.{ℕ, ◌/◌, ◌%◌, ◌-◌, Bool, true, false, cond, ◌&&◌, List, [], ◌∷◌, ◌++◌, length, eqb, ltb, replicate}
 use Rattle.dots.specs.declared.Cursor.{Cursor}
 use Rattle.dots.specs.Operation.{operation_of}
 use Rattle.registers.specs.declared.Mode.TheVariants as mode
@@ -40,6 +40,10 @@ reset_done r =
 -- "discard the entries behind them and turn to read mode"
 abbrev pub turned : Registers → Buffer → Registers
 turned r b = put_mode (put_buffer r b) mode.Read
+
+-- a buffer of at most sixteen bytes
+abbrev pub holding : List ℕ → Buffer
+holding l = record { entries = l ++ replicate (16 - length l) 0; count = length l }
 
 -- "EAD in three bytes, mask in two", low byte first
 abbrev pub cursor_bytes : Cursor → Buffer

@@ -1,12 +1,17 @@
 // What a command byte does.
-ghost use Rattle.std.specs.Prelude.{◌≡◌, true};
-ghost use Rattle.registers.specs.Put.{put_video, put_display, put_vsync, put_drawing, put_op, put_progress, put_work};
+#![tactic(auto,
+    unfolding(crate::specs::Command::reset_done, crate::specs::Command::figure_begun, crate::specs::Command::figd_taken,
+        crate::specs::Command::character_begun, crate::specs::Command::read_begun, crate::specs::Command::command_taken))]
+
+ghost use Rattle.std.specs.Prelude.{◌≡◌, ◌≤◌, length};
+ghost use Rattle.registers.specs.Put.{put_progress};
 ghost use Rattle.registers.specs.Fresh.{fresh_drawing, empty_buffer};
 ghost use Rattle.processor.specs.Command.{
   first_of,
   begun,
   reset_done,
   turned,
+  holding,
   cursor_bytes,
   pen_bytes,
   pen_given,
@@ -18,18 +23,17 @@ ghost use Rattle.processor.specs.Command.{
   command_taken,
 };
 
-use dots::{Cursor, Operation};
+use dots::Cursor;
 use registers::{Buffer, Command, Drawing, Mode, Pen, Progress, Registers, Transfer, Video, Work};
 
 // The command in progress, with no parameter taken.
-fn begin(r: Registers, c: Command, byte: u8) -> Registers
-    ensures { result ≡ put_progress r (begun c byte) }
+fn begin(r: Registers, command: Command, byte: u8) -> Registers
+    ensures { result ≡ put_progress r (begun command byte) }
 {
-    let first = first_of(byte);
     Registers {
         progress: Progress {
-            command: c,
-            next: first,
+            command,
+            next: first_of(byte),
             low: 0,
         },
         ..r
@@ -40,20 +44,21 @@ fn begin(r: Registers, c: Command, byte: u8) -> Registers
 pub fn first_of(byte: u8) -> u8
     ensures { result ≡ first_of byte }
 {
-    if (0x70 <= byte) & (byte <= 0x7F) {
-        return byte % 16;
+    match byte {
+        0x70..=0x7F => byte % 16,
+        _ => 0,
     }
-    0
 }
 
 // RESET: the buffer is emptied, write mode, nothing in progress, display off.
 pub fn reset_done(r: Registers) -> Registers
     ensures { result ≡ reset_done r }
 {
-    let mut video = r.video;
-    video.display = false;
     Registers {
-        video: video,
+        video: Video {
+            display: false,
+            ..r.video
+        },
         mode: Mode::Write,
         buffer: no_entries(),
         progress: Progress {
@@ -78,13 +83,26 @@ pub fn no_entries() -> Buffer
 }
 
 // Read mode, with a buffer in place of the entries behind the command.
-fn turn(r: Registers, b: Buffer) -> Registers
-    ensures { result ≡ turned r b }
+fn turn(r: Registers, buffer: Buffer) -> Registers
+    ensures { result ≡ turned r buffer }
 {
     Registers {
         mode: Mode::Read,
-        buffer: b,
+        buffer,
         ..r
+    }
+}
+
+// A buffer of these bytes.
+fn buffer_of(bytes: &[u16]) -> Buffer
+    requires { length bytes.now ≤ 16 }
+    ensures { result ≡ holding bytes.now }
+{
+    let mut entries = [0; 16];
+    entries[..bytes.len()].copy_from_slice(bytes);
+    Buffer {
+        entries,
+        count: bytes.len() as u8,
     }
 }
 
@@ -92,137 +110,75 @@ fn turn(r: Registers, b: Buffer) -> Registers
 fn cursor_bytes(c: Cursor) -> Buffer
     ensures { result ≡ cursor_bytes c }
 {
-    Buffer {
-        entries: [
-            (c.ead % 256) as u16,
-            (c.ead / 256 % 256) as u16,
-            (c.ead / 65536 % 256) as u16,
-            c.mask % 256,
-            c.mask / 256,
-            0,
-            0,
-            0,
-            0,
-            0,
-            0,
-            0,
-            0,
-            0,
-            0,
-            0,
-        ],
-        count: 5,
-    }
+    buffer_of(&[
+        (c.ead % 256) as u16,
+        (c.ead / 256 % 256) as u16,
+        (c.ead / 65536 % 256) as u16,
+        c.mask % 256,
+        c.mask / 256,
+    ])
 }
 
 // LPRD's three bytes.
 fn pen_bytes(p: Pen) -> Buffer
     ensures { result ≡ pen_bytes p }
 {
-    Buffer {
-        entries: [
-            (p.address % 256) as u16,
-            (p.address / 256 % 256) as u16,
-            (p.address / 65536 % 256) as u16,
-            0,
-            0,
-            0,
-            0,
-            0,
-            0,
-            0,
-            0,
-            0,
-            0,
-            0,
-            0,
-            0,
-        ],
-        count: 3,
-    }
+    buffer_of(&[
+        (p.address % 256) as u16,
+        (p.address / 256 % 256) as u16,
+        (p.address / 65536 % 256) as u16,
+    ])
 }
 
 // LPRD: the address is given and is no more news.
 fn pen_given(r: Registers) -> Registers
     ensures { result ≡ pen_given r }
 {
-    let mut n = r;
-    n.pen.set = false;
-    turn(n, pen_bytes(r.pen))
-}
-
-// WDAT: the operation for its sets and for later figures.
-fn operate(r: Registers, o: Operation) -> Registers
-    ensures { result ≡ put_op r o }
-{
-    Registers { op: o, ..r }
+    let pen = Pen {
+        set: false,
+        ..r.pen
+    };
+    turn(Registers { pen, ..r }, pen_bytes(pen))
 }
 
 // FIGS: DC, D, D2, D1 and DM are fresh.
-fn refresh(r: Registers) -> Registers
-    ensures { result ≡ put_drawing r (fresh_drawing r.drawing) }
+pub fn refresh(f: Drawing) -> Drawing
+    ensures { result ≡ fresh_drawing f }
 {
-    let mut f = r.drawing;
-    f.dc = 0;
-    f.d = 8;
-    f.d2 = 8;
-    f.d1 = 16383;
-    f.dm = 16383;
-    let mut n = r;
-    n.drawing = f;
-    n
-}
-
-// VSYNC's low bit.
-fn master(r: Registers, on: bool) -> Registers
-    ensures { result ≡ put_video r (put_vsync r.video on) }
-{
-    let mut n = r;
-    n.video.vsync = on;
-    n
-}
-
-// START.
-fn start(r: Registers) -> Registers
-    ensures { result ≡ put_video r (put_display r.video true) }
-{
-    let mut n = r;
-    n.video.display = true;
-    n
-}
-
-// The registers with something in progress.
-fn work_on(r: Registers, w: Work) -> Registers
-    ensures { result ≡ put_work r w }
-{
-    Registers { work: w, ..r }
+    Drawing {
+        dc: 0,
+        d: 8,
+        d2: 8,
+        d1: 16383,
+        dm: 16383,
+        ..f
+    }
 }
 
 // FIGD for a figure that is no arc.
 fn begin_figure(r: Registers) -> Registers
     ensures { result ≡ figure_begun r }
 {
-    let dots = registers::dots_of(r.drawing);
-    if 0 < dots {
-        return work_on(
-            r,
-            Work::Figure {
-                dot: 0,
-                d: r.drawing.d,
-            },
-        );
+    if registers::dots_of(r.drawing) == 0 {
+        return r;
     }
-    r
+    Registers {
+        work: Work::Figure {
+            dot: 0,
+            d: r.drawing.d,
+        },
+        ..r
+    }
 }
 
 // FIGD.
 fn begin_figd(r: Registers) -> Registers
     ensures { result ≡ figd_taken r }
 {
-    if r.drawing.kind == registers::ARC_KIND {
-        return passes::begin_arc(r);
+    match r.drawing.kind {
+        registers::ARC_KIND => passes::begin_arc(r),
+        _ => begin_figure(r),
     }
-    begin_figure(r)
 }
 
 // GCHRD.
@@ -231,46 +187,41 @@ fn begin_character(r: Registers) -> Registers
 {
     let rows = registers::rows_of(r.drawing, r.video.zoom);
     let columns = registers::columns_of(r.drawing, r.video.zoom);
-    let start = r.cursor;
-    if (0 < rows) & (0 < columns) {
-        return work_on(
-            r,
-            Work::Character {
-                row: 0,
-                column: 0,
-                start: start,
-            },
-        );
+    if (rows == 0) | (columns == 0) {
+        return r;
     }
-    r
+    Registers {
+        work: Work::Character {
+            row: 0,
+            column: 0,
+            start: r.cursor,
+        },
+        ..r
+    }
 }
 
 // The count of the cycles of what has begun.
 fn begin_count(r: Registers) -> Registers
     ensures { result ≡ count_begun r }
 {
-    let work = r.work;
-    let left = registers::cycles_left(r.drawing, r.video.zoom, work);
-    let mut n = r;
-    n.remaining = left;
-    n
+    Registers {
+        remaining: registers::cycles_left(r.drawing, r.video.zoom, r.work),
+        ..r
+    }
 }
 
 // RDAT.
-fn begin_read(r: Registers, t: Transfer) -> Registers
-    ensures { result ≡ read_begun t r }
+fn begin_read(r: Registers, transfer: Transfer) -> Registers
+    ensures { result ≡ read_begun transfer r }
 {
     let n = turn(r, no_entries());
-    if 0 < r.drawing.dc {
-        return work_on(
-            n,
-            Work::Reading {
-                item: 0,
-                transfer: t,
-            },
-        );
+    if r.drawing.dc == 0 {
+        return n;
     }
-    n
+    Registers {
+        work: Work::Reading { item: 0, transfer },
+        ..n
+    }
 }
 
 // A command byte is taken: it ends the previous command and does what it says.
@@ -281,14 +232,32 @@ pub fn command_taken(r: Registers, byte: u8) -> Registers
     let n = begin(r, c, byte);
     match c {
         Command::Reset => reset_done(n),
-        Command::Vsync => master(n, byte % 2 == 1),
-        Command::Start => start(n),
-        Command::Figs => refresh(n),
+        Command::Vsync => Registers {
+            video: Video {
+                vsync: byte % 2 == 1,
+                ..n.video
+            },
+            ..n
+        },
+        Command::Start => Registers {
+            video: Video {
+                display: true,
+                ..n.video
+            },
+            ..n
+        },
+        Command::Figs => Registers {
+            drawing: refresh(n.drawing),
+            ..n
+        },
         Command::Figd => begin_count(begin_figd(n)),
         Command::Gchrd => begin_count(begin_character(n)),
         Command::Curd => turn(n, cursor_bytes(n.cursor)),
         Command::Lprd => pen_given(n),
-        Command::Wdat(_) => operate(n, dots::operation_of(byte % 4)),
+        Command::Wdat(_) => Registers {
+            op: dots::operation_of(byte % 4),
+            ..n
+        },
         Command::Rdat(t) => begin_read(n, t),
         Command::Nothing
         | Command::Cchar

@@ -1,5 +1,5 @@
 // The command processor: what an entry does when it is taken from the buffer.
-#![tactic(auto)]
+#![tactic(auto, unfolding(crate::specs::Entry::entry_taken))]
 
 ghost use Rattle.std.specs.Prelude.{◌≡◌};
 ghost use Rattle.registers.specs.State.{state};
@@ -16,7 +16,8 @@ pub fn entry_taken(r: Registers, e: u16, mem: &mut [u16]) -> Registers
 {
     let byte = (e % 256) as u8;
     if e < 256 {
-        return parameter::parameter_taken(r, byte, mem);
+        parameter::parameter_taken(r, byte, mem)
+    } else {
+        command::command_taken(r, byte)
     }
-    command::command_taken(r, byte)
 }

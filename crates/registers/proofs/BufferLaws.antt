@@ -1,16 +1,15 @@
--- The buffer: a pop moves each entry one place on, one after another; the test of the first n entries, one entry on: those passed and what
--- is left
--- decide; and where all sixteen are below a bound, those held are.
-use mathlib.Core.Path.{◌≡◌, refl, sym, ap, ◌∙◌}
-use mathlib.Core.Bool.{Bool, true, false, cond, ◌&&◌, and-true, and-false}
+-- The buffer: a pop moves each entry one place on; the test of the first n entries, one entry on: those passed and what is left decide; and
+-- where all sixteen are below a bound, those held are.
+use mathlib.Core.Path.{◌≡◌, refl, sym}
+use mathlib.Core.Bool.{Bool, true, false, ◌&&◌, ◌||◌, and-true}
 use mathlib.Core.List.{List, [], ◌∷◌, ◌++◌}
 use Prim.Native.Nat.{ℕ, zero, suc, ◌+◌, ◌-◌, ◌≤◌, ◌<◌}
 use native.Mathlib.Omega.{arith}
 use native.Mathlib.Numerals.{add-one}
 use lib.Dec.{ltb, leb}
 use lib.ListN.{length, get_or, set, take, drop, length-drop, drop_of_length-le}
-use lib.Seq.{drop-cons, drop-length, take-nil, take_all, get_or-drop, set_at, paste, paste-zero, paste-suc}
-use borrow.Author.Tests.{leb-true, leb-false, ltb-true, ltb-false, lt-ltb, le-ltb, lt-leb}
+use lib.Seq.{drop-cons, drop-length, take-nil, take_all, set_at, paste}
+use borrow.Author.Tests.{leb-true, leb-false, ltb-true, lt-ltb, lt-leb}
 use Rattle.registers.proofs.BoolLaws.{and_left, and_right}
 use Rattle.registers.specs.declared.Buffer.{Buffer}
 use Rattle.registers.specs.Buffer.{popped}
@@ -28,28 +27,25 @@ module _ (b n : ℕ) (e : List ℕ) where
   unfolding all_below
   fit_ends t i h = rw (drop_of_length-le e h, take-nil (n - i)) (and-true t)
 
-  -- the i-th decides where it is held and not below; where it is not, what is behind it does
-  one_on : (i : ℕ) → i < length e → rest i ≡ cond (ltb i n && leb b (get_or e i 0)) false (rest (i + 1))
+  -- the i-th decides where it is held; where it is not, what is behind it does
+  one_on : (i : ℕ) → i < length e → rest i ≡ ((leb n i || ltb (get_or e i 0) b) && rest (i + 1))
   unfolding all_below
-  one_on i h = go (ltb i n) (leb b (get_or e i 0)) refl refl
+  one_on i h = go (leb n i) refl
     where
-      held : ltb i n ≡ true → n - i ≡ suc (n - (i + 1))
-      held p = let l : i < n = ltb-true i n p in omega arith
-
-      go : (t u : Bool) → ltb i n ≡ t → leb b (get_or e i 0) ≡ u → rest i ≡ cond (t && u) false (rest (i + 1))
-      go true true p q = rw (held p, add-one, drop-cons e i 0 h, le-ltb (get_or e i 0) b (leb-true b (get_or e i 0) q))
-      go true false p q = rw (held p, add-one, drop-cons e i 0 h, lt-ltb (get_or e i 0) b (leb-false b (get_or e i 0) q))
-      go false u p q =
-          let past : n ≤ i = ltb-false i n p in
+      go : (t : Bool) → leb n i ≡ t → rest i ≡ ((t || ltb (get_or e i 0) b) && rest (i + 1))
+      go true p =
+          let past : n ≤ i = leb-true n i p in
           let m : n - i ≡ 0 = omega arith in
           let m' : n - (i + 1) ≡ 0 = omega arith in
           rw (m, m')
+      go false p =
+          let l : i < n = leb-false n i p in
+          let held : n - i ≡ suc (n - (i + 1)) = omega arith in
+          rw (held, add-one, drop-cons e i 0 h)
 
-  pub fit_fails : (t : Bool) (i : ℕ) → i < length e → (ltb i n && leb b (get_or e i 0)) ≡ true → (t && rest i) ≡ false
-  fit_fails t i h p = ap (λ (x : Bool). t && x) (one_on i h ∙ (rw p)) ∙ and-false t
-
-  pub fit_goes_on : (t : Bool) (i : ℕ) → i < length e → (ltb i n && leb b (get_or e i 0)) ≡ false → (t && rest i) ≡ (t && rest (i + 1))
-  fit_goes_on t i h p = ap (λ (x : Bool). t && x) (one_on i h ∙ (rw p))
+  pub fit_goes_on : (t : Bool) (i : ℕ) → i < length e → (t && rest i) ≡ ((t && (leb n i || ltb (get_or e i 0) b)) && rest (i + 1))
+  fit_goes_on true i h = one_on i h
+  fit_goes_on false i h = refl
 
 -- what is below for the first n is below for fewer
 below_fewer : (b m n : ℕ) (e : List ℕ) → m ≤ n → all_below b (take n e) ≡ true → all_below b (take m e) ≡ true
@@ -93,23 +89,18 @@ bytes_enough n e p = go (leb n 16) refl
 abbrev pub moved : ℕ → List ℕ → List ℕ
 moved i e = paste e 0 (drop 1 e) i
 
-pub moved_starts : (e : List ℕ) → e ≡ moved 0 e
-moved_starts e = paste-zero e 0 (drop 1 e)
-
-pub moved_on : (e : List ℕ) (i : ℕ) → i + 1 < length e → set (moved i e) i (get_or e (i + 1) 0) ≡ moved (i + 1) e
-moved_on e i h =
-    let n = length-drop 1 e in
-    let z : 0 + i ≡ i = omega arith in
-    let o : 1 + i ≡ i + 1 = omega arith in
-    rw (z, add-one) (rw (z, get_or-drop 1 e i 0, o, add-one) at (paste-suc e 0 (drop 1 e) i 0 (omega arith) (omega arith)))
-
 moved_all : (e : List ℕ) → length e ≡ 16 → set (moved 15 e) 15 0 ≡ drop 1 e ++ (0 ∷ [])
 moved_all e h =
     let n = length-drop 1 e in
     let z : drop 16 e ≡ [] = rw (← h, drop-length) in
     rw (take_all 15 (drop 1 e) (omega arith), drop-cons e 15 0 (omega arith), z) (set_at (drop 1 e) (get_or e 15 0) [] 0 15 (omega arith))
 
-pub popped_more : (b : Buffer) → 1 < b.count → length b.entries ≡ 16
+popped_more : (b : Buffer) → 1 < b.count → length b.entries ≡ 16
     → record { entries = set (moved 15 b.entries) 15 0; count = b.count - 1 } ≡ popped b
 unfolding popped
 popped_more b h n = rw (lt-leb b.count 1 h, moved_all b.entries n)
+
+-- e has them after all behind the oldest have moved by one place
+pub popped_moved : (b : Buffer) {e : List ℕ} → 1 < b.count → length b.entries ≡ 16 → e ≡ moved (length b.entries - 1) b.entries
+    → record { entries = set e 15 0; count = b.count - 1 } ≡ popped b
+popped_moved b h n f = let k : length b.entries - 1 ≡ 15 = omega arith in rw (f, k) (popped_more b h n)

@@ -1,4 +1,5 @@
 pub mod BoolLaws
 pub mod BufferLaws
+pub mod FreshLaws
 pub mod HeldLaws
 pub mod SizeLaws

@@ -1,9 +1,20 @@
--- A number of 17 bits times a factor of at most 16 fits 32 bits; the product of two that fit 32 bits, and one more, fits 64.
-use mathlib.Core.Path.{◌≡◌}
-use Prim.Native.Nat.{ℕ, ◌+◌, ◌*◌, ◌≤◌, ◌<◌}
+-- The types 0 and 1 by their tests. A number of 17 bits times a factor of at most 16 fits 32 bits.
+use mathlib.Core.Path.{◌≡◌, refl}
+use mathlib.Core.Bool.{true, false, ◌||◌}
+use lib.Dec.{eqb}
+use borrow.Author.Tests.{ne_eqb}
+use Prim.Native.Nat.{ℕ, zero, suc, ◌*◌, ◌≤◌, ◌<◌}
 use native.Mathlib.Nat.{mul-le-mul_left}
 use native.Mathlib.Omega.{arith}
 use Rattle.registers.specs.Size.{factor_of}
+
+pub along : (k : ℕ) → k < 2 → (eqb k 0 || eqb k 1) ≡ true
+along zero h = refl
+along (suc zero) h = refl
+along (suc (suc k)) h = absurd (omega arith)
+
+pub neither : (k : ℕ) → 2 ≤ k → (eqb k 0 || eqb k 1) ≡ false
+neither k h = rw (ne_eqb k 0 (omega arith), ne_eqb k 1 (omega arith))
 
 pub factor_le : (zoom : ℕ) → factor_of zoom ≤ 16
 unfolding factor_of
@@ -13,9 +24,3 @@ pub times_factor : (a zoom : ℕ) {g : ℕ} → a ≤ 65536 → g ≡ factor_of 
 times_factor a zoom {g} h e =
     let u : a * g ≤ a * 16 = mul-le-mul_left a (omega (arith, factor_le zoom)) in
     omega arith
-
-pub wide_product : {a b : ℕ} → a < 4294967296 → b < 4294967296 → a * b < 18446744073709551616
-wide_product {a} {b} h k = let u : a * b ≤ a * 4294967295 = mul-le-mul_left a (omega arith) in omega arith
-
-pub wide_sum : {a b c : ℕ} → a < 4294967296 → b < 4294967296 → c < 4294967296 → a * b + c < 18446744073709551616
-wide_sum {a} {b} h k l = let u : a * b ≤ a * 4294967295 = mul-le-mul_left a (omega arith) in omega arith

@@ -1,5 +1,5 @@
 // The status byte.
-#![tactic(auto)]
+#![tactic(auto, unfolding(crate::specs::Status::one_if, crate::specs::Status::status_of))]
 
 ghost use Rattle.std.specs.Prelude.{◌≡◌, ◌&&◌, ◌+◌, ◌*◌, eqb, ltb};
 ghost use Rattle.registers.specs.Width.{places};
@@ -11,41 +11,16 @@ use registers::{Mode, Registers, Work};
 fn figure_in_progress(w: Work) -> bool
     ensures { result ≡ figure_in_progress_b w }
 {
-    match w {
-        Work::Idle => false,
-        Work::Figure { dot: _, d: _ } => true,
-        Work::Arc {
-            cycle: _,
-            running: _,
-        } => true,
-        Work::Character {
-            row: _,
-            column: _,
-            start: _,
-        } => true,
-        Work::Reading {
-            item: _,
-            transfer: _,
-        } => false,
-    }
-}
-
-fn one_if(t: bool) -> u8
-    ensures { result ≡ one_if t }
-{
-    if t {
-        return 1;
-    }
-    0
+    matches!(
+        w,
+        Work::Figure { .. } | Work::Arc { .. } | Work::Character { .. }
+    )
 }
 
 fn is_read(m: Mode) -> bool
     ensures { result ≡ read_mode_b m }
 {
-    match m {
-        Mode::Write => false,
-        Mode::Read => true,
-    }
+    matches!(m, Mode::Read)
 }
 
 // The status byte, of what it tells: the light pen, a figure, how many entries are held, read mode.
@@ -54,24 +29,24 @@ pub fn status_by(pen: bool, drawing: bool, count: u8, reading: bool) -> u8
         ≡ 128 * one_if pen + 8 * one_if drawing + 4 * one_if (eqb count 0) + 2 * one_if (eqb count places) + one_if
         (reading && ltb 0 count) }
 {
-    let pen = one_if(pen) as u16;
-    let drawing = one_if(drawing) as u16;
-    let empty = one_if(count == 0) as u16;
-    let full = one_if(count == registers::PLACES) as u16;
-    let ready = one_if(reading & (0 < count)) as u16;
-    (128 * pen + 8 * drawing + 4 * empty + 2 * full + ready) as u8
+    let empty = count == 0;
+    let full = count == registers::PLACES;
+    let ready = reading & (0 < count);
+    128 * u8::from(pen)
+        + 8 * u8::from(drawing)
+        + 4 * u8::from(empty)
+        + 2 * u8::from(full)
+        + u8::from(ready)
 }
 
 // The status byte of a register set.
 pub fn status_of(r: Registers) -> u8
     ensures { result ≡ status_of r }
 {
-    let work = r.work;
-    let mode = r.mode;
     status_by(
         r.pen.set,
-        figure_in_progress(work),
+        figure_in_progress(r.work),
         r.buffer.count,
-        is_read(mode),
+        is_read(r.mode),
     )
 }

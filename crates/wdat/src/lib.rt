@@ -1,5 +1,5 @@
 // WDAT's sets.
-#![tactic(auto)]
+#![tactic(auto, unfolding(crate::specs::Wdat::set_done, crate::specs::Wdat::wdat_taken))]
 
 ghost use Rattle.std.specs.Prelude.{◌≡◌};
 ghost use Rattle.registers.specs.Put.{put_progress};
@@ -15,8 +15,7 @@ pub fn half(t: Transfer, i: u8) -> bool
 {
     match t {
         Transfer::Word => i == 0,
-        Transfer::Low => false,
-        Transfer::High => false,
+        Transfer::Low | Transfer::High => false,
     }
 }
 
@@ -43,7 +42,7 @@ fn pattern_of(t: Transfer, low: u8, v: u8) -> u16
     ensures { result ≡ wdat_pattern t low v }
 {
     match t {
-        Transfer::Word => low as u16 + 256 * v as u16,
+        Transfer::Word => u16::from_le_bytes([low, v]),
         Transfer::Low => v as u16,
         Transfer::High => 256 * v as u16,
     }
@@ -54,9 +53,10 @@ pub fn set_pattern(mapped: bool, t: Transfer, low: u8, v: u8) -> u16
     ensures { result ≡ set_pattern mapped t low v }
 {
     if mapped {
-        return filled(t, low, v);
+        filled(t, low, v)
+    } else {
+        pattern_of(t, low, v)
     }
-    pattern_of(t, low, v)
 }
 
 // The place within a set.
@@ -66,8 +66,8 @@ fn place(r: Registers, t: Transfer, next: u8, low: u8) -> Registers
     Registers {
         progress: Progress {
             command: Command::Wdat(t),
-            next: next,
-            low: low,
+            next,
+            low,
         },
         ..r
     }
@@ -77,10 +77,8 @@ fn place(r: Registers, t: Transfer, next: u8, low: u8) -> Registers
 fn set_done(r: Registers, t: Transfer) -> Registers
     ensures { result ≡ set_done t r }
 {
-    let mut n = r;
-    let c = dots::word_move(r.drawing.dir, r.pitch, r.cursor);
-    n.cursor = c;
-    place(n, t, 0, 0)
+    let cursor = dots::word_move(r.drawing.dir, r.pitch, r.cursor);
+    place(Registers { cursor, ..r }, t, 0, 0)
 }
 
 // A byte of a set is taken; the set that becomes complete makes its cycle.
@@ -90,13 +88,8 @@ pub fn wdat_taken(r: Registers, t: Transfer, i: u8, v: u8, mem: &mut [u16]) -> R
     if half(t, i) {
         return place(r, t, 1, v);
     }
-    let board = r.board;
-    let wiring = board.wiring;
-    let op = r.op;
-    let sync = r.video.sync;
-    let first = sync[0];
-    let mapped = bit_mapped(first, r.drawing.gd);
+    let mapped = bit_mapped(r.video.sync[0], r.drawing.gd);
     let pattern = set_pattern(mapped, t, r.progress.low, v);
-    dots::cycle(mem, wiring, r.cursor, pattern, op);
+    dots::cycle(mem, r.board.wiring, r.cursor, pattern, r.op);
     set_done(r, t)
 }

@@ -1,0 +1,36 @@
+// The buffer: an entry more, the oldest, and the rest without it.
+ghost use Rattle.std.specs.Prelude.{◌≡◌};
+ghost use Rattle.registers.specs.Buffer.{pushed, oldest, popped};
+
+use super::{Buffer, PLACES};
+
+// The buffer with an entry more; one of sixteen takes none.
+pub fn push(mut b: Buffer, e: u16) -> Buffer
+    ensures { result ≡ pushed b e }
+{
+    if b.count < PLACES {
+        b.entries[b.count as usize] = e;
+        b.count += 1;
+    }
+    b
+}
+
+// The oldest entry.
+pub fn oldest_of(b: Buffer) -> u16
+    ensures { result ≡ oldest b }
+{
+    b.entries[0]
+}
+
+// The buffer without its oldest entry.
+pub fn pop(mut b: Buffer) -> Buffer
+    ensures { result ≡ popped b }
+{
+    if b.count <= 1 {
+        return Buffer::default();
+    }
+    b.entries.copy_within(1.., 0);
+    b.entries[15] = 0;
+    b.count -= 1;
+    b
+}

@@ -1,0 +1,82 @@
+// How large a figure is, and how much of it is left.
+ghost use Rattle.std.specs.Prelude.{◌≡◌, ◌-◌};
+ghost use Rattle.registers.specs.Size.{factor_of, dots_of, arc_cycles_of, rows_of, columns_of};
+ghost use Rattle.registers.specs.Left.{character_left, cycles_left};
+
+use super::{ARC_KIND, CHARACTER_KIND, Drawing, LINE_KIND, PLAIN_KIND, RECTANGLE_KIND, Work};
+
+// The dots of the figure that FIGD draws.
+pub fn dots_of(f: Drawing) -> u32
+    ensures { result ≡ dots_of f }
+{
+    match f.kind {
+        PLAIN_KIND | LINE_KIND => f.dc as u32 + 1,
+        RECTANGLE_KIND => f.d as u32 + f.d2 as u32 + f.d as u32 + f.d2 as u32,
+        _ => 0,
+    }
+}
+
+// The cycles of the arc that FIGD draws.
+pub fn arc_cycles_of(f: Drawing) -> u32
+    ensures { result ≡ arc_cycles_of f }
+{
+    match f.kind {
+        ARC_KIND => (f.dc as u32 + 1).saturating_sub(f.dm as u32),
+        _ => 0,
+    }
+}
+
+// ZOOM's low nibble + 1.
+pub fn factor_of(zoom: u8) -> u32
+    ensures { result ≡ factor_of zoom }
+{
+    zoom as u32 % 16 + 1
+}
+
+// The rows of the character that GCHRD draws.
+pub fn rows_of(f: Drawing, zoom: u8) -> u32
+    ensures { result ≡ rows_of f zoom }
+{
+    match f.kind {
+        CHARACTER_KIND => (f.dc as u32 + 1) * factor_of(zoom),
+        _ => 0,
+    }
+}
+
+// The dots in each of them.
+pub fn columns_of(f: Drawing, zoom: u8) -> u32
+    ensures { result ≡ columns_of f zoom }
+{
+    f.d as u32 * factor_of(zoom)
+}
+
+// All but those done, or none.
+pub fn rest_of(all: u64, done: u64) -> u64
+    ensures { result ≡ all - done }
+{
+    if done < all {
+        return all - done;
+    }
+    0
+}
+
+// The dots of a character from this one on.
+pub fn character_left(f: Drawing, zoom: u8, row: u32, column: u32) -> u64
+    ensures { result ≡ character_left f zoom row column }
+{
+    let rows = rows_of(f, zoom) as u64;
+    let columns = columns_of(f, zoom) as u64;
+    rest_of(rows * columns, row as u64 * columns + column as u64)
+}
+
+// The cycles still to come of the figure in progress.
+pub fn cycles_left(f: Drawing, zoom: u8, w: Work) -> u64
+    ensures { result ≡ cycles_left f zoom w }
+{
+    match w {
+        Work::Idle | Work::Reading { .. } => 0,
+        Work::Figure { dot, .. } => rest_of(dots_of(f) as u64, dot as u64),
+        Work::Arc { cycle, .. } => rest_of(arc_cycles_of(f) as u64, cycle as u64),
+        Work::Character { row, column, .. } => character_left(f, zoom, row, column),
+    }
+}
