@@ -3,12 +3,15 @@
 
 ghost use Rattle.std.specs.Prelude.{◌≡◌, ◌-◌};
 ghost use Rattle.walks.specs.Walk.{least, led, stood, figure_walk, row_walk, rows_walk, next_row};
+ghost use Rattle.walks.specs.Pace.{stroke_of};
 
+use crate::pace::Stroke;
 use dots::{Cursor, Operation, Wiring};
 use registers::Drawing;
 
 pub mod bits;
 mod line;
+pub mod pace;
 mod side;
 pub mod steps;
 
@@ -21,6 +24,20 @@ pub struct Brush {
     pub drawing: Drawing,
     pub zoom: u8,
     pub pitch: u8,
+}
+
+impl Brush {
+    // What a figure's dots are drawn with.
+    pub fn stroke(self) -> Stroke
+        ensures { result ≡ stroke_of self }
+    {
+        Stroke {
+            wiring: self.wiring,
+            op: self.op,
+            low: self.ram[8],
+            high: self.ram[9],
+        }
+    }
 }
 
 // Where dots of a figure led, and the running D.
