@@ -37,13 +37,7 @@ pub struct Stroke {
 }
 
 // Dots k to end by the operation of a number, known before the first dot, as the table of masks is.
-fn walk_loop<P: Pace, const OP: u8>(
-    mem: &mut [u16],
-    s: Stroke,
-    from: P,
-    k: u32,
-    end: u32,
-) -> P
+fn walk_loop<P: Pace, const OP: u8>(mem: &mut [u16], s: Stroke, from: P, k: u32, end: u32) -> P
     requires { P.stands from }
     ensures { paced result mem.new ≡ pace_walk P.at P.on s.wiring (operation_of OP) s.low s.high (end - k) k from mem.old }
 {

@@ -85,9 +85,7 @@ pub(crate) fn side_dots(mem: &mut [u16], b: Brush, at: u32, d: u16, k: u32, end:
 fn row_byte(ram: [u8; 16], y: u32) -> u8
     ensures { result ≡ row_byte ram y }
 {
-    let at = 15 - (y % 8) as usize;
-    let byte = ram[at];
-    (byte as u16 % 256) as u8
+    ram[15 - (y % 8) as usize]
 }
 
 // Dots of row y from dot x on, which stands at the bit address at, before dot end; the bit address that they lead to.
@@ -117,11 +115,9 @@ pub(crate) fn rows_bits(mem: &mut [u16], b: Brush, y: u32, at: u32, end: u32) ->
     let columns = registers::columns_of(b.drawing, b.zoom);
     let down = stride(((b.drawing.dir as u16 + 2) % 8) as u8, b.pitch);
     let mut s = at;
-    let mut i = y;
-    while i < end {
+    for i in y..end {
         row_bits(mem, b, i, 0, s, columns);
         s = (s + down) % 4194304;
-        i += 1;
     }
     s
 }

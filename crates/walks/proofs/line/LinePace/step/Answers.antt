@@ -11,6 +11,6 @@ returns c =
     let s = c.args.self.place in
     let p = c.requires.0 in
     elim c.if-self-ne0.branch [
-      then-self-ne0 w ↦ let t = w.if-self-ne0.true in rw (c.keep.ensures, w.gain-is, le-leb 35184372088832 s (omega (arith, t))) |
-      else-self-ne0 w ↦ let t = w.if-self-ne0.false in rw (c.keep.ensures, w.gain-is, lt-leb 35184372088832 s (omega arith))
+      | then-self-ne0 w ↦ let t = w.if-self-ne0.true in rw (c.keep.ensures, w.gain-is, le-leb 35184372088832 s (omega (arith, t)))
+      | else-self-ne0 w ↦ let t = w.if-self-ne0.false in rw (c.keep.ensures, w.gain-is, lt-leb 35184372088832 s (omega arith))
     ]
