@@ -49,18 +49,13 @@ pub fn run_on(a: Running) -> Running
     let d = gain(a);
     let d1 = lose(a.d1);
     if SIGN <= d {
-        let d2 = lose(a.d2);
         return Running {
             d: ((d as u32 + a.d2 as u32) % FOURTEEN_BITS) as u16,
-            d1: d1,
-            d2: d2,
+            d1,
+            d2: lose(a.d2),
         };
     }
-    Running {
-        d: d,
-        d1: d1,
-        d2: a.d2,
-    }
+    Running { d, d1, ..a }
 }
 
 // The direction of the move.
@@ -78,12 +73,9 @@ pub fn move_on(dir: u8, pitch: u8, m: Moving) -> Moving
     ensures { result ≡ moved_on dir pitch m }
 {
     let a = m.running;
-    let c = m.cursor;
-    let next = run_on(a);
-    let at = dots::step(direction(dir, a), pitch, c);
     Moving {
-        running: next,
-        cursor: at,
+        running: run_on(a),
+        cursor: dots::step(direction(dir, a), pitch, m.cursor),
     }
 }
 
@@ -92,10 +84,8 @@ pub fn pass(dir: u8, pitch: u8, m: Moving, n: u16) -> Moving
     ensures { result ≡ passed dir pitch m n }
 {
     let mut at = m;
-    let mut k: u16 = 0;
-    while k < n {
+    for _ in 0..n {
         at = move_on(dir, pitch, at);
-        k += 1;
     }
     at
 }

@@ -34,18 +34,17 @@ pub fn figure(mem: &mut [u16], b: Brush, c: Cursor, k: u32, d: u16, most: u32) -
     let n = least_of(most, before_last(k, registers::dots_of(b.drawing)));
     let end = k + n;
     let q = walks::figure_dots(mem, b, c, d, k, end);
-    let at = q.cursor;
     if n < most {
-        walks::steps::dot(mem, b, at, end);
+        walks::steps::dot(mem, b, q.cursor, end);
         return Burst {
             count: n + 1,
-            cursor: at,
+            cursor: q.cursor,
             work: Work::Idle,
         };
     }
     Burst {
         count: n,
-        cursor: at,
+        cursor: q.cursor,
         work: Work::Figure { dot: end, d: q.d },
     }
 }
@@ -121,9 +120,9 @@ pub fn character(
             count: n,
             cursor: at,
             work: Work::Character {
-                row: row,
+                row,
                 column: end,
-                start: start,
+                start,
             },
         };
     }

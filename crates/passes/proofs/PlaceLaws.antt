@@ -1,37 +1,19 @@
 -- A move of a place is a move of the arc: the sums of D, D1 and D2 wrap at 14 bits because they stand highest, and a step along a direction
 -- is a sum on the bit address (`stride_steps`). So n moves are n moves, from wherever a bit address stands.
-use Rattle.std.proofs.Common.{◌≡◌, ℕ, zero, suc, ◌+◌, ◌*◌, ◌/◌, ◌%◌, ◌<◌, ◌≤◌, Bool, true, false, cond, ◌&&◌, ltb, leb, sym, ap, ◌∙◌, arith}
-use Rattle.std.proofs.Common.{ltb-true, le-leb}
+use Rattle.std.proofs.Common.{◌≡◌, ℕ, zero, suc, ◌+◌, ◌*◌, ◌/◌, ◌%◌, ◌<◌, ◌≤◌, Bool, true, false, cond, leb, sym, ap, ◌∙◌, arith}
+use Rattle.std.proofs.Common.{le-leb}
 use native.Mathlib.Decide.{dec_le}
 use borrow.Author.Tests.{lt-leb}
 use Rattle.dots.specs.Step.{step_of}
 use Rattle.dots.specs.Dot.{cursor_at}
 use Rattle.registers.specs.declared.Running.{Running}
-use Rattle.registers.specs.Sound.{running_b}
-use Rattle.registers.proofs.BoolLaws.{and_left, and_right}
 use Rattle.figures.specs.Figure.{axis_of, diagonal_of}
 use Rattle.arcs.specs.declared.Moving.{Moving}
 use Rattle.arcs.specs.Arc.{gained, turns_b, running_by, running_on, arc_direction, moved_on, passed}
-use Rattle.walks.specs.Address.{stride_of, Stride, Address}
+use Rattle.walks.specs.Address.{stride_of, Stride}
 use Rattle.walks.proofs.BitLaws.{stride_steps, stride_small}
 use Rattle.passes.specs.declared.Place.{Place}
 use Rattle.passes.specs.Place.{unit, two_less, wrapped, kept, gaining, place_by, place_on, place_passed, place_of, standing_at, Stands}
-
--- ---- the code's ways out
-pub turned : (axis : ℕ) (p : Place) {d g k u t : ℕ} → d ≡ wrapped (p.at + p.gain) → g ≡ wrapped (p.gain + two_less)
-    → k ≡ wrapped (d + p.turn) → u ≡ kept k → t ≡ wrapped (p.turn + two_less) → 9223372036854775808 ≤ d
-    → record { at = u; gain = g; turn = t } ≡ place_on axis p
-unfolding place_on
-turned axis p ed eg ek eu et h =
-    let k : 9223372036854775808 ≤ gaining p = rw (← ed) h in
-    rw (le-leb 9223372036854775808 (gaining p) k, eu, ek, ed, eg, et)
-
-pub went_straight : (axis : ℕ) (p : Place) {d g k u : ℕ} → d ≡ wrapped (p.at + p.gain) → g ≡ wrapped (p.gain + two_less)
-    → k ≡ wrapped (d + axis) → u ≡ kept k → d < 9223372036854775808 → record { at = u; gain = g; turn = p.turn } ≡ place_on axis p
-unfolding place_on
-went_straight axis p ed eg ek eu h =
-    let k : gaining p < 9223372036854775808 = rw (← ed) h in
-    rw (lt-leb 9223372036854775808 (gaining p) k, eu, ek, ed, eg)
 
 -- ---- sums in the high bits
 pub record Narrow (r : Running) : Type 0 where
@@ -181,22 +163,3 @@ module _ (dir h axis diagonal : ℕ) {u v : ℕ} (eu : u ≡ axis_of dir) (sx : 
       ew ∙ ap standing_at eq
       ∙ stands_for diagonal (passed dir h m n) (place_passed axis p n) (stride_small sy)
       (stands_passed m p n (stands_first m a z k ep))
-
--- a bit address of the cursor's is the arc's where its copies have 14 bits; else there is none
-pub stands_narrow : (m : Moving) (a : ℕ) {t : Bool} → t ≡ running_b m.running → t ≡ true → Address m.cursor a → Stands m a
-stands_narrow m a e h z =
-    let d = ltb m.running.d 16384 in
-    let d1 = ltb m.running.d1 16384 in
-    let d2 = ltb m.running.d2 16384 in
-    let all : ((d && d1) && d2) ≡ true = sym e ∙ h in
-    let both : (d && d1) ≡ true = and_left (d && d1) d2 all in
-    record {
-      at = λ k. z.stands k;
-      d = λ k. ltb-true m.running.d 16384 (and_left d d1 both);
-      d1 = λ k. ltb-true m.running.d1 16384 (and_right d d1 both);
-      d2 = λ k. ltb-true m.running.d2 16384 (and_right (d && d1) d2 all);
-    }
-
-pub stands_nowhere : (m : Moving) → Stands m 4194304
-stands_nowhere m =
-    record { at = λ k. absurd (omega arith); d = λ k. absurd (omega arith); d1 = λ k. absurd (omega arith); d2 = λ k. absurd (omega arith) }

@@ -1,14 +1,13 @@
 // The moves of an arc's dots that are passed over, and what FIGD begins. Where the mask is one bit the moves go by the bit address.
 #![tactic(auto)]
 
-ghost use Rattle.std.specs.Prelude.{◌≡◌};
+ghost use Rattle.std.specs.Prelude.{◌≡◌, ◌<◌, MatchOption};
 ghost use Rattle.arcs.specs.Arc.{passed};
 ghost use Rattle.arcs.specs.Unit.{copied, arc_begun};
 ghost use Rattle.passes.specs.Place.{kept, place_on, place_passed, place_of, standing_at, Stands};
 
 use arcs::Moving;
 use registers::{Drawing, Registers, Running, Work};
-use std::num::wrapping_add_u64;
 use walks::bits::stride;
 
 // 2^50, and 2 less of a number of 14 bits there.
@@ -38,21 +37,18 @@ fn keep(t: u64) -> u64
 pub fn place_on(axis: u64, p: Place) -> Place
     ensures { result ≡ place_on axis p }
 {
-    let d = wrapping_add_u64(p.at, p.gain);
-    let gain = wrapping_add_u64(p.gain, TWO_LESS);
+    let d = p.at.wrapping_add(p.gain);
+    let gain = p.gain.wrapping_add(TWO_LESS);
     if SIGN <= d {
-        let at = keep(wrapping_add_u64(d, p.turn));
-        let turn = wrapping_add_u64(p.turn, TWO_LESS);
         return Place {
-            at: at,
-            gain: gain,
-            turn: turn,
+            at: keep(d.wrapping_add(p.turn)),
+            gain,
+            turn: p.turn.wrapping_add(TWO_LESS),
         };
     }
-    let at = keep(wrapping_add_u64(d, axis));
     Place {
-        at: at,
-        gain: gain,
+        at: keep(d.wrapping_add(axis)),
+        gain,
         turn: p.turn,
     }
 }
@@ -62,10 +58,8 @@ fn pass_loop(axis: u64, from: Place, n: u16) -> Place
     ensures { result ≡ place_passed axis from n }
 {
     let mut p = from;
-    let mut k: u16 = 0;
-    while k < n {
+    for _ in 0..n {
         p = place_on(axis, p);
-        k += 1;
     }
     p
 }
@@ -84,40 +78,37 @@ pub fn place_of(diagonal: u32, at: u32, a: Running) -> Place
 pub fn standing(p: Place) -> Moving
     ensures { result ≡ standing_at p }
 {
-    let c = dots::cursor_at((p.at % 4194304) as u32);
     Moving {
         running: Running {
             d: (p.at / UNIT) as u16,
             d1: (p.gain / UNIT) as u16,
             d2: (p.turn / UNIT) as u16,
         },
-        cursor: c,
+        cursor: dots::cursor_at((p.at % 4194304) as u32),
     }
 }
 
-// The bit address of an arc whose mask is one bit and whose copies have 14 bits; of any other 2^22.
-pub fn address_of(m: Moving) -> u32
-    ensures { Stands m result }
+// The bit address of an arc whose mask is one bit and whose copies have 14 bits.
+pub fn address_of(m: Moving) -> Option<u32>
+    ensures { MatchOption result (Stands m 4194304) (λ a. (a < 4194304) × Stands m a) }
 {
-    let a = m.running;
-    if registers::running_fits(a) {
+    if registers::running_fits(m.running) {
         return walks::bits::address_of(m.cursor);
     }
-    4194304
+    None
 }
 
 // The moves of n dots that are passed over.
 pub fn pass(dir: u8, pitch: u8, m: Moving, n: u16) -> Moving
     ensures { result ≡ passed dir pitch m n }
 {
-    let at = address_of(m);
-    if 4194304 <= at {
+    let Some(at) = address_of(m) else {
         return arcs::pass(dir, pitch, m, n);
-    }
+    };
     let axis = stride(figures::figure::axis_of(dir), pitch);
     let diagonal = stride(figures::figure::diagonal_of(dir), pitch);
-    let a = m.running;
-    standing(pass_loop(axis as u64, place_of(diagonal, at, a), n))
+    let from = place_of(diagonal, at, m.running);
+    standing(pass_loop(axis as u64, from, n))
 }
 
 // The copies with which an arc begins.
@@ -136,26 +127,19 @@ pub fn begin_arc(r: Registers) -> Registers
     ensures { result ≡ arc_begun r }
 {
     let f = r.drawing;
-    let a = copy(f);
+    let running = copy(f);
     if 0 < registers::arc_cycles_of(f) {
         return Registers {
-            work: Work::Arc {
-                cycle: 0,
-                running: a,
-            },
+            work: Work::Arc { cycle: 0, running },
             ..r
         };
     }
-    let c = r.cursor;
-    let m = pass(
-        f.dir,
-        r.pitch,
-        Moving {
-            running: a,
-            cursor: c,
-        },
-        f.dc,
-    );
-    let at = m.cursor;
-    Registers { cursor: at, ..r }
+    let from = Moving {
+        running,
+        cursor: r.cursor,
+    };
+    Registers {
+        cursor: pass(f.dir, r.pitch, from, f.dc).cursor,
+        ..r
+    }
 }

@@ -1,9 +1,7 @@
--- The loop over an arc's place: what is left to do from here is what was to do from the start; and its dots are the cursor's, since each
--- move of the place is one of the arc (`stands_on`).
-use mathlib.Core.Path.{◌≡◌, ap, ◌∙◌}
+-- The dots of an arc by its place are the cursor's, since each move of the place is one of the arc (`stands_on`).
+use mathlib.Core.Path.{◌≡◌, refl, ap, ◌∙◌}
 use mathlib.Core.List.{List}
-use Prim.Native.Nat.{ℕ, zero, suc, ◌+◌, ◌-◌, ◌%◌, ◌<◌, ◌≤◌}
-use native.Mathlib.Omega.{arith}
+use Prim.Native.Nat.{ℕ, zero, suc, ◌+◌, ◌<◌}
 use lib.ListN.{get_or}
 use Rattle.dots.specs.declared.Wiring.{Wiring}
 use Rattle.dots.specs.declared.Operation.{Operation}
@@ -13,24 +11,28 @@ use Rattle.dots.specs.Dot.{cursor_at}
 use Rattle.figures.specs.Figure.{pattern_of, pattern_at, axis_of, diagonal_of}
 use Rattle.arcs.specs.declared.Moving.{Moving}
 use Rattle.walks.specs.declared.Brush.{Brush}
+use Rattle.walks.specs.declared.pace.Stroke.{Stroke}
 use Rattle.walks.specs.Address.{Stride}
+use Rattle.walks.specs.Pace.{Paced, paced, pace_walk, stroke_of}
 use Rattle.walks.proofs.BitLaws.{stride_small}
 use Rattle.passes.specs.declared.Place.{Place}
 use Rattle.passes.specs.Place.{place_on, place_of, standing_at, Stands}
 use Rattle.passes.proofs.PlaceLaws.{Standing, stands_for, stands_at, stands_on, stands_first}
 use Rattle.sweeps.specs.Sweep.{Swept, swept, on_by, arc_walk}
+use Rattle.sweeps.specs.declared.bits.Curve.{Curve}
 use Rattle.sweeps.specs.Place.{Placed, placed, place_walk}
+use Rattle.sweeps.specs.Curve.{curve_at, curve_on}
 
-module _ (w : Wiring) (op : Operation) (low high axis end : ℕ) where
-  pub place_goes : {x : ℕ} {q : Place} {l : List ℕ} (p : Place) (m : List ℕ) (i : ℕ) → i < end → x ≡ pattern_of low high i
-      → l ≡ cycled w op x (cursor_at (p.at % 4194304)) m → q ≡ place_on axis p
-      → place_walk w op low high axis (end - i) i p m ≡ place_walk w op low high axis (end - (i + 1)) (i + 1) q l
-  unfolding place_walk
-  place_goes p m i h ex el eq = let j : end - i ≡ suc (end - (i + 1)) = omega arith in rw (j, eq, el, ex)
+-- a walk by a place with its axis is the walk of the place
+module _ (w : Wiring) (op : Operation) (low high : ℕ) where
+  abbrev curved : Paced Curve → Placed
+  curved v = placed v.place.place v.mem
 
-  pub place_ends : (p : Place) (m : List ℕ) (i : ℕ) → end ≤ i → placed p m ≡ place_walk w op low high axis (end - i) i p m
-  unfolding place_walk
-  place_ends p m i h = let j : end - i ≡ zero = omega arith in rw j
+  curve_same : (n i : ℕ) (p : Curve) (m : List ℕ)
+      → curved (pace_walk curve_at curve_on w op low high n i p m) ≡ place_walk w op low high p.axis n i p.place m
+  unfolding pace_walk place_walk
+  curve_same zero i p m = refl
+  curve_same (suc n) i p m = curve_same n (i + 1) (curve_on p) (cycled w op (pattern_of low high i) (cursor_at (curve_at p)) m)
 
 module _ (b : Brush) (axis diagonal : ℕ) {u v : ℕ} (eu : u ≡ axis_of b.drawing.dir) (sx : Stride u b.pitch axis)
     (ev : v ≡ diagonal_of b.drawing.dir) (sy : Stride v b.pitch diagonal) where
@@ -53,9 +55,14 @@ module _ (b : Brush) (axis diagonal : ℕ) {u v : ℕ} (eu : u ≡ axis_of b.dra
       (stands_at diagonal m p s)
 
   -- over what the calls of the code ensure
-  pub bits_walk : (n i : ℕ) (m : Moving) (a : ℕ) (l t : List ℕ) {p q : Place} {w : Moving} → Stands m a → a < 4194304
-      → p ≡ place_of diagonal a m.running → placed q t ≡ place_walk b.wiring b.op low high axis n i p l → w ≡ standing_at q
-      → swept w t ≡ arc_walk b n i m l
-  bits_walk n i m a l t {p} {q} z k ep eq ew =
-      ap (λ (v : Moving). swept v t) ew ∙ ap swept_by eq
+  pub bits_walk : (n i : ℕ) (m : Moving) (a : ℕ) (l t : List ℕ) {s : Stroke} {p : Place} {q : Curve} {w : Moving} → Stands m a
+      → a < 4194304 → p ≡ place_of diagonal a m.running → s ≡ stroke_of b
+      → paced q t ≡ pace_walk curve_at curve_on s.wiring s.op s.low s.high n i (record { place = p; axis = axis }) l
+      → w ≡ standing_at q.place → swept w t ≡ arc_walk b n i m l
+  bits_walk n i m a l t {s} {p} {q} z k ep es eq ew =
+      let c : Curve = record { place = p; axis = axis } in
+      ap (λ (v : Moving). swept v t) ew
+      ∙ ap (λ (v : Paced Curve). swept_by (curved b.wiring b.op low high v))
+      (eq ∙ ap (λ (s : Stroke). pace_walk curve_at curve_on s.wiring s.op s.low s.high n i c l) es)
+      ∙ ap swept_by (curve_same b.wiring b.op low high n i c l)
       ∙ places_walk n i m p l (stands_first b.drawing.dir b.pitch axis diagonal eu sx ev sy m a z k ep)

@@ -1,2 +1,3 @@
 pub mod Sweep
 pub mod Place
+pub mod Curve

@@ -28,12 +28,9 @@ fn plain_arc(mem: &mut [u16], b: Brush, from: Moving, i: u32, end: u32) -> Movin
     ensures { swept result mem.new ≡ arc_walk b (end - i) i from mem.old }
 {
     let mut m = from;
-    let mut k = i;
-    while k < end {
-        let c = m.cursor;
-        walks::steps::dot(mem, b, c, k);
+    for k in i..end {
+        walks::steps::dot(mem, b, m.cursor, k);
         m = arcs::move_on(b.drawing.dir, b.pitch, m);
-        k += 1;
     }
     m
 }
@@ -42,11 +39,10 @@ fn plain_arc(mem: &mut [u16], b: Brush, from: Moving, i: u32, end: u32) -> Movin
 fn arc_dots(mem: &mut [u16], b: Brush, from: Moving, i: u32, end: u32) -> Moving
     ensures { swept result mem.new ≡ arc_walk b (end - i) i from mem.old }
 {
-    let at = passes::address_of(from);
-    if 4194304 <= at {
-        return plain_arc(mem, b, from, i, end);
+    match passes::address_of(from) {
+        Some(at) => bits::arc_bits(mem, b, from, at, i, end),
+        None => plain_arc(mem, b, from, i, end),
     }
-    bits::arc_bits(mem, b, from, at, i, end)
 }
 
 // At most so many units of the arc whose cycle k is next. A dot's pattern bit is told by its number modulo 16.
@@ -63,36 +59,31 @@ pub fn arc(mem: &mut [u16], b: Brush, c: Cursor, k: u32, a: Running, most: u32) 
             },
         };
     }
-    let from = meet(
-        b,
-        Moving {
-            running: a,
-            cursor: c,
-        },
-        k,
-    );
+    let at = Moving {
+        running: a,
+        cursor: c,
+    };
+    let from = meet(b, at, k);
     let left = bursts::before_last(k, registers::arc_cycles_of(b.drawing));
     let n = least_of(most, left);
     let first = b.drawing.dm as u32 + k % 16;
     let cycle = k + n;
     let end = first + n;
     let q = arc_dots(mem, b, from, first, end);
-    let at = q.cursor;
     if n < most {
-        walks::steps::dot(mem, b, at, end);
+        walks::steps::dot(mem, b, q.cursor, end);
         return Burst {
             count: n + 1,
-            cursor: at,
+            cursor: q.cursor,
             work: Work::Idle,
         };
     }
-    let next = q.running;
     Burst {
         count: n,
-        cursor: at,
+        cursor: q.cursor,
         work: Work::Arc {
-            cycle: cycle,
-            running: next,
+            cycle,
+            running: q.running,
         },
     }
 }

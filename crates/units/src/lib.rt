@@ -6,9 +6,11 @@ ghost use Rattle.dots.specs.declared.Wiring.TheVariants.{Folded};
 ghost use Rattle.registers.specs.Put.{put_cursor, put_work, put_remaining};
 ghost use Rattle.registers.specs.State.{state};
 ghost use Rattle.units.specs.Unit.{fetched, fetch_by};
+ghost use Rattle.units.specs.Stop.{stop_number, reason_number};
 ghost use Rattle.units.specs.Run.{waiting, reason_of, length_b, outcome, run_from, run_done};
 
-use dots::{Cursor, Wiring};
+use bursts::Burst;
+use dots::Wiring;
 use registers::{Buffer, Mode, Registers, Work};
 use walks::Brush;
 
@@ -21,72 +23,70 @@ pub struct Ran {
     pub regs: Registers,
 }
 
+// Why a run stops: its budget is spent, nothing is in progress or queued, or a read awaits room.
+#[derive(Clone, Copy)]
+pub enum Stop {
+    Spent,
+    Idle,
+    Full,
+}
+
+impl From<Stop> for u8 {
+    fn from(why: Stop) -> u8
+        ensures { result ≡ stop_number why }
+    {
+        match why {
+            Stop::Spent => 1,
+            Stop::Idle => 2,
+            Stop::Full => 3,
+        }
+    }
+}
+
 // The oldest entry leaves the buffer and is taken.
 fn fetch(r: Registers, mem: &mut [u16]) -> Registers
     ensures { state result mem.new ≡ fetched (state r mem.old) }
 {
-    let held = r.buffer;
-    let mut n = r;
-    let rest = registers::pop(held);
-    n.buffer = rest;
-    processor::entry_taken(n, registers::oldest_of(held), mem)
+    let left = Registers {
+        buffer: registers::pop(r.buffer),
+        ..r
+    };
+    processor::entry_taken(left, registers::oldest_of(r.buffer), mem)
 }
 
 // Nothing is in progress: an entry, where one waits in write mode.
 fn idle_unit(r: Registers, mem: &mut [u16]) -> Registers
     ensures { state result mem.new ≡ fetch_by r.mode r.buffer.count (state r mem.old) }
 {
-    let mode = r.mode;
-    match mode {
-        Mode::Write => {
-            if r.buffer.count == 0 {
-                return r;
-            }
-            fetch(r, mem)
-        }
-        Mode::Read => r,
+    match r.mode {
+        Mode::Write if r.buffer.count != 0 => fetch(r, mem),
+        Mode::Write | Mode::Read => r,
     }
 }
 
 // Nothing is in progress: whether an entry waits.
-fn waiting_reason(m: Mode, b: Buffer) -> u8
-    ensures { result ≡ waiting m b }
+fn waiting_reason(m: Mode, b: Buffer) -> Option<Stop>
+    ensures { reason_number result ≡ waiting m b }
 {
     match m {
-        Mode::Write => {
-            if b.count == 0 {
-                return 2;
-            }
-            0
-        }
-        Mode::Read => 2,
+        Mode::Write if b.count != 0 => None,
+        Mode::Write => Some(Stop::Idle),
+        Mode::Read => Some(Stop::Idle),
     }
 }
 
-// Why a run must stop here; 0: it goes on.
-pub fn reason(r: Registers) -> u8
-    ensures { result ≡ reason_of r }
+// Why a run must stop here, if it must.
+pub fn reason(r: Registers) -> Option<Stop>
+    ensures { reason_number result ≡ reason_of r }
 {
-    let work = r.work;
-    let mode = r.mode;
-    let buffer = r.buffer;
-    match work {
-        Work::Idle => waiting_reason(mode, buffer),
-        Work::Figure { dot: _, d: _ } => 0,
-        Work::Arc {
-            cycle: _,
-            running: _,
-        } => 0,
-        Work::Character {
-            row: _,
-            column: _,
-            start: _,
-        } => 0,
-        Work::Reading { item: _, transfer } => {
-            if figures::reading::room(transfer, buffer) {
-                return 0;
+    match r.work {
+        Work::Idle => waiting_reason(r.mode, r.buffer),
+        Work::Figure { .. } | Work::Arc { .. } | Work::Character { .. } => None,
+        Work::Reading { transfer, .. } => {
+            if figures::reading::room(transfer, r.buffer) {
+                return None;
             }
-            3
+            Some(Stop::Full)
         }
     }
 }
@@ -123,13 +123,25 @@ pub fn length_right(wiring: Wiring, n: usize) -> bool
 }
 
 // It stops after n units, and why.
-fn stops(r: Registers, n: u32, why: u8) -> Ran
-    ensures { result ≡ record { number = 0; count = n; why = why; regs = r } }
+fn stops(r: Registers, n: u32, why: Stop) -> Ran
+    ensures { result ≡ record { number = 0; count = n; why = stop_number why; regs = r } }
 {
     Ran {
         number: 0,
         count: n,
-        why: why,
+        why: u8::from(why),
+        regs: r,
+    }
+}
+
+// It is refused: the registers as they were given, and no unit.
+fn refused(r: Registers, number: u8) -> Ran
+    ensures { result ≡ record { number = number; count = 0; why = 0; regs = r } }
+{
+    Ran {
+        number,
+        count: 0,
+        why: 0,
         regs: r,
     }
 }
@@ -145,30 +157,26 @@ fn brush_of(r: Registers) -> Brush
       pitch = r.pitch;
     } }
 {
-    let board = r.board;
-    let wiring = board.wiring;
-    let op = r.op;
     let ram = r.ram;
-    let f = r.drawing;
     Brush {
-        wiring: wiring,
-        op: op,
-        ram: ram,
-        drawing: f,
+        wiring: r.board.wiring,
+        op: r.op,
+        ram,
+        drawing: r.drawing,
         zoom: r.video.zoom,
         pitch: r.pitch,
     }
 }
 
-// n cycles on a figure is elsewhere, or has ended; so many fewer are left.
-fn cycles_on(r: Registers, c: Cursor, w: Work, n: u32) -> Registers
-    ensures { result ≡ put_remaining (put_work (put_cursor r c) w) (r.remaining - n) }
+// After a burst the figure is elsewhere, or has ended; as many cycles fewer are left as it took.
+fn after_burst(r: Registers, q: Burst) -> Registers
+    ensures { result ≡ put_remaining (put_work (put_cursor r q.cursor) q.work) (r.remaining - q.count) }
 {
-    let left = registers::rest_of(r.remaining, n as u64);
+    let n = q.count;
     Registers {
-        cursor: c,
-        work: w,
-        remaining: left,
+        cursor: q.cursor,
+        work: q.work,
+        remaining: registers::rest_of(r.remaining, n as u64),
         ..r
     }
 }
@@ -180,45 +188,31 @@ pub fn run_on(r: Registers, mem: &mut [u16], budget: u32) -> Ran
     let mut s = r;
     let mut n: u32 = 0;
     while n < budget {
-        let why = reason(s);
-        if why != 0 {
+        if let Some(why) = reason(s) {
             return stops(s, n, why);
         }
-        let work = s.work;
-        match work {
-            Work::Figure { dot, d } => {
-                let q = bursts::figure(mem, brush_of(s), s.cursor, dot, d, budget - n);
-                let at = q.cursor;
-                let next = q.work;
-                s = cycles_on(s, at, next, q.count);
-                n += q.count;
-            }
-            Work::Arc { cycle, running } => {
-                let q = sweeps::arc(mem, brush_of(s), s.cursor, cycle, running, budget - n);
-                let at = q.cursor;
-                let next = q.work;
-                s = cycles_on(s, at, next, q.count);
-                n += q.count;
-            }
+        let (b, c, most) = (brush_of(s), s.cursor, budget - n);
+        let q = match s.work {
+            Work::Figure { dot, d } => bursts::figure(mem, b, c, dot, d, most),
+            Work::Arc { cycle, running } => sweeps::arc(mem, b, c, cycle, running, most),
             Work::Character { row, column, start } => {
-                let b = brush_of(s);
-                let q = bursts::character(mem, b, s.cursor, row, column, start, budget - n);
-                let at = q.cursor;
-                let next = q.work;
-                s = cycles_on(s, at, next, q.count);
-                n += q.count;
+                bursts::character(mem, b, c, row, column, start, most)
             }
             Work::Reading { item, transfer } => {
                 s = figures::reading::read_unit(s, item, transfer, mem);
                 n += 1;
+                continue;
             }
             Work::Idle => {
                 s = idle_unit(s, mem);
                 n += 1;
+                continue;
             }
-        }
+        };
+        s = after_burst(s, q);
+        n += q.count;
     }
-    stops(s, n, 1)
+    stops(s, n, Stop::Spent)
 }
 
 // The run: refusals 1 and 2, else units.
@@ -226,22 +220,10 @@ pub fn run(r: Registers, mem: &mut [u16], budget: u32) -> Ran
     ensures { outcome result mem.new ≡ run_done budget (state r mem.old) }
 {
     if !registers::sound(r) {
-        return Ran {
-            number: 1,
-            count: 0,
-            why: 0,
-            regs: r,
-        };
+        return refused(r, 1);
     }
-    let board = r.board;
-    let wiring = board.wiring;
-    if !length_right(wiring, mem.len()) {
-        return Ran {
-            number: 2,
-            count: 0,
-            why: 0,
-            regs: r,
-        };
+    if !length_right(r.board.wiring, mem.len()) {
+        return refused(r, 2);
     }
     run_on(r, mem, budget)
 }

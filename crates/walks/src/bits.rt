@@ -1,23 +1,21 @@
 // A cursor whose mask is one bit stands at a bit address, of 22 bits: a step is a sum on it.
-ghost use Rattle.std.specs.Prelude.{◌≡◌};
+ghost use Rattle.std.specs.Prelude.{◌≡◌, ◌<◌, MatchOption};
 ghost use Rattle.walks.specs.Address.{Address, Stride};
 
 use dots::Cursor;
 
-// The bit address of a cursor whose mask is one bit; of any other 2^22.
-pub fn address_of(c: Cursor) -> u32
-    ensures { Address c result }
+// The bit address of a cursor whose mask is one bit.
+pub fn address_of(c: Cursor) -> Option<u32>
+    ensures { MatchOption result (Address c 4194304) (λ a. (a < 4194304) × Address c a) }
 {
-    let n = u16::trailing_zeros(c.mask) % 16;
-    if 262144 <= c.ead {
-        return 4194304;
+    if dots::ADDRESSES <= c.ead {
+        return None;
     }
-    let at = c.ead * 16 + n;
-    let there = dots::cursor_at(at);
-    if there.mask == c.mask {
-        return at;
+    let at = c.ead * 16 + u16::trailing_zeros(c.mask) % 16;
+    if dots::cursor_at(at).mask == c.mask {
+        return Some(at);
     }
-    4194304
+    None
 }
 
 // What a step along a direction adds to the bit address.

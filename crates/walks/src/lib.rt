@@ -3,12 +3,15 @@
 
 ghost use Rattle.std.specs.Prelude.{◌≡◌, ◌-◌};
 ghost use Rattle.walks.specs.Walk.{least, led, stood, figure_walk, row_walk, rows_walk, next_row};
+ghost use Rattle.walks.specs.Pace.{stroke_of};
 
+use crate::pace::Stroke;
 use dots::{Cursor, Operation, Wiring};
 use registers::Drawing;
 
 pub mod bits;
 mod line;
+pub mod pace;
 mod side;
 pub mod steps;
 
@@ -21,6 +24,20 @@ pub struct Brush {
     pub drawing: Drawing,
     pub zoom: u8,
     pub pitch: u8,
+}
+
+impl Brush {
+    // What a figure's dots are drawn with.
+    pub fn stroke(self) -> Stroke
+        ensures { result ≡ stroke_of self }
+    {
+        Stroke {
+            wiring: self.wiring,
+            op: self.op,
+            low: self.ram[8],
+            high: self.ram[9],
+        }
+    }
 }
 
 // Where dots of a figure led, and the running D.
@@ -44,40 +61,37 @@ pub fn least_of(a: u32, b: u32) -> u32
 pub fn figure_dots(mem: &mut [u16], b: Brush, c: Cursor, d: u16, k: u32, end: u32) -> Reached
     ensures { led result mem.new ≡ figure_walk b (end - k) k d c mem.old }
 {
-    let at = bits::address_of(c);
-    if 4194304 <= at {
-        return steps::plain_dots(mem, b, c, d, k, end);
+    match bits::address_of(c) {
+        Some(at) if b.drawing.kind == registers::LINE_KIND => {
+            line::line_dots(mem, b, at, d, k, end)
+        }
+        Some(at) => side::side_dots(mem, b, at, d, k, end),
+        None => steps::plain_dots(mem, b, c, d, k, end),
     }
-    if b.drawing.kind == registers::LINE_KIND {
-        return line::line_dots(mem, b, at, d, k, end);
-    }
-    side::side_dots(mem, b, at, d, k, end)
 }
 
 // Dots of row y from dot x on, before dot end: by bit addresses where the mask is one bit and the character not enlarged.
 pub fn row_dots(mem: &mut [u16], b: Brush, y: u32, x: u32, from: Cursor, end: u32) -> Cursor
     ensures { stood result mem.new ≡ row_walk b (end - x) y x from mem.old }
 {
-    let at = bits::address_of(from);
-    if at < 4194304 {
-        if registers::factor_of(b.zoom) == 1 {
-            return dots::cursor_at(side::row_bits(mem, b, y, x, at, end));
+    match bits::address_of(from) {
+        Some(at) if registers::factor_of(b.zoom) == 1 => {
+            dots::cursor_at(side::row_bits(mem, b, y, x, at, end))
         }
+        _ => steps::plain_row(mem, b, y, x, from, end),
     }
-    steps::plain_row(mem, b, y, x, from, end)
 }
 
 // Whole rows from row y on, before row end, likewise.
 pub fn rows_dots(mem: &mut [u16], b: Brush, y: u32, from: Cursor, end: u32) -> Cursor
     ensures { stood result mem.new ≡ rows_walk b (end - y) y from mem.old }
 {
-    let at = bits::address_of(from);
-    if at < 4194304 {
-        if registers::factor_of(b.zoom) == 1 {
-            return dots::cursor_at(side::rows_bits(mem, b, y, at, end));
+    match bits::address_of(from) {
+        Some(at) if registers::factor_of(b.zoom) == 1 => {
+            dots::cursor_at(side::rows_bits(mem, b, y, at, end))
         }
+        _ => steps::plain_rows(mem, b, y, from, end),
     }
-    steps::plain_rows(mem, b, y, from, end)
 }
 
 // Where the next row starts.

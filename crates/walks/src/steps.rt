@@ -9,22 +9,16 @@ use dots::Cursor;
 pub fn dot(mem: &mut [u16], b: Brush, c: Cursor, k: u32)
     ensures { mem.new ≡ dotted b k c mem.old }
 {
-    let ram = b.ram;
-    let wiring = b.wiring;
-    let op = b.op;
-    let pattern = figures::figure::pattern_of(ram[8], ram[9], k);
-    dots::cycle(mem, wiring, c, pattern, op);
+    let pattern = figures::figure::pattern_of(b.ram[8], b.ram[9], k);
+    dots::cycle(mem, b.wiring, c, pattern, b.op);
 }
 
 // One cycle of a character.
 pub fn letter(mem: &mut [u16], b: Brush, c: Cursor, row: u32, column: u32)
     ensures { mem.new ≡ lettered b row column c mem.old }
 {
-    let ram = b.ram;
-    let wiring = b.wiring;
-    let op = b.op;
-    let pattern = figures::character::zoomed_pattern(ram, b.zoom, row, column);
-    dots::cycle(mem, wiring, c, pattern, op);
+    let pattern = figures::character::zoomed_pattern(b.ram, b.zoom, row, column);
+    dots::cycle(mem, b.wiring, c, pattern, b.op);
 }
 
 // Dots of a figure from dot k on, before dot end, each with the step after it.
@@ -40,14 +34,12 @@ pub(crate) fn plain_dots(
 {
     let mut c = from;
     let mut d = first;
-    let mut i = k;
-    while i < end {
+    for i in k..end {
         dot(mem, b, c, i);
         c = dots::step(figures::figure::direction_at(b.drawing, i, d), b.pitch, c);
         d = figures::figure::running_d(b.drawing, d);
-        i += 1;
     }
-    Reached { cursor: c, d: d }
+    Reached { cursor: c, d }
 }
 
 // Dots of row y from dot x on, before dot end, each with the step after it.
@@ -55,11 +47,9 @@ pub(crate) fn plain_row(mem: &mut [u16], b: Brush, y: u32, x: u32, from: Cursor,
     ensures { stood result mem.new ≡ row_walk b (end - x) y x from mem.old }
 {
     let mut c = from;
-    let mut i = x;
-    while i < end {
+    for i in x..end {
         letter(mem, b, c, y, i);
         c = dots::step(b.drawing.dir, b.pitch, c);
-        i += 1;
     }
     c
 }
@@ -70,11 +60,9 @@ pub(crate) fn plain_rows(mem: &mut [u16], b: Brush, y: u32, from: Cursor, end: u
 {
     let columns = registers::columns_of(b.drawing, b.zoom);
     let mut s = from;
-    let mut i = y;
-    while i < end {
+    for i in y..end {
         plain_row(mem, b, i, 0, s, columns);
         s = super::next_row(b, s);
-        i += 1;
     }
     s
 }

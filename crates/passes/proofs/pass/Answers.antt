@@ -1,15 +1,10 @@
 -- `pass` moves as the cursor does, either way.
-use Prim.Native.Nat.{◌<◌}
-use native.Mathlib.Omega.{arith}
+use Rattle.std.proofs.lemmas.Option.{MatchOption-at_some}
 use Rattle.passes.proofs.PlaceLaws.{passes_by}
 use Rattle.passes.proofs.pass.Goals as goal
 
 pub returns : goal.returns
 returns c =
-    let one : c.address_of-at.result < 4194304 = omega arith in
-    passes_by _ _ _ _ c.axis_of.ensures
-    c.stride-axis.ensures c.diagonal_of.ensures
-    c.stride-diagonal.ensures _ _ _
-    c.address_of-at.ensures
-    one c.place_of.ensures
-    c.pass_loop.ensures c.standing.ensures
+    let v = MatchOption-at_some _ _ _ c.in-Some.is c.address_of.ensures in
+    passes_by _ _ _ _ c.axis_of.ensures c.stride-axis.ensures c.diagonal_of.ensures c.stride-diagonal.ensures _ _ _ v.1 v.0
+    c.place_of-from.ensures c.pass_loop.ensures c.standing.ensures

@@ -2,9 +2,6 @@
 use Rattle.units.specs.Run.{length_b}
 use Rattle.units.proofs.length_right.Goals as goal
 
-pub returns-in-Folded : goal.returns-in-Folded
-returns-in-Folded c = rw c.in-Folded.is c.folded_right.ensures
-
 pub returns-in-Open : goal.returns-in-Open
 unfolding length_b
 returns-in-Open c = rw c.in-Open.is

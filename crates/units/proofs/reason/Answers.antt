@@ -1,6 +1,7 @@
 -- `reason` is the definition, by what is in progress.
 use Rattle.units.specs.Run.{reason_of}
 use mathlib.Core.Path.{sym, ◌∙◌}
+use Rattle.std.proofs.Common.{inl, inr}
 use Rattle.units.proofs.reason.Goals as goal
 
 pub returns-then-room : goal.returns-then-room
@@ -13,15 +14,8 @@ returns-in-Idle c = rw (c.in-Idle.is, c.waiting_reason.ensures)
 
 pub returns-in-Figure : goal.returns-in-Figure
 unfolding reason_of
-returns-in-Figure c = rw c.in-Figure.is
-
-pub returns-in-Arc : goal.returns-in-Arc
-unfolding reason_of
-returns-in-Arc c = rw c.in-Arc.is
-
-pub returns-in-Character : goal.returns-in-Character
-unfolding reason_of
-returns-in-Character c = rw c.in-Character.is
+returns-in-Figure c = 
+    elim c.in-Figure.is [ inl h ↦ rw h.2 | inr h ↦ elim h [ inl j ↦ rw j.2 | inr j ↦ rw j.3 ] ]
 
 pub returns-else-room : goal.returns-else-room
 unfolding reason_of

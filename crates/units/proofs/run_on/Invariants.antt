@@ -2,7 +2,6 @@
 -- `arc_ahead`, `character_ahead`).
 use Rattle.units.specs.Run.{run_from}
 use Rattle.registers.specs.State.{state}
-use lib.ListN.{length}
 use mathlib.Core.Path.{◌≡◌}
 use Prim.Native.Nat.{◌-◌, ◌≤◌}
 use Rattle.units.proofs.run_on.Given as goal
@@ -11,7 +10,6 @@ abbrev pub invariant-loop-n : goal.invariant-loop-n
 invariant-loop-n l =
     record {
       within : l.n ≤ l.budget;
-      long : length l.mem ≡ length l.initial.mem;
       same : run_from l.budget 0 (state l.initial.s l.initial.mem) ≡ run_from (l.budget - l.n) l.n (state l.s l.mem);
     }
 

@@ -1,22 +1,21 @@
 -- `line_dots` walks as the cursor does (`line_done`).
 use Rattle.walks.proofs.BitLaws.{line_done}
+use Rattle.walks.proofs.LoopLaws.{line_walked}
 use Rattle.walks.proofs.line.line_dots.Goals as goal
 
-pub line_by-s-requires : goal.line_by-s-requires
-line_by-s-requires c = (
-  c.packed.ensures.small,
-  (c.packed-axis.ensures.small, c.packed-diagonal.ensures.small),
-)
+pub walk-place-requires : goal.walk-place-requires
+walk-place-requires c = (c.packed.ensures.small, (c.packed-2.ensures.small, c.packed-3.ensures.small))
 
 pub returns : goal.returns
 returns c =
     let p = c.requires in
     line_done _ _ _ _ _ _ _ _ p.0 p.1
     c.axis_of.ensures
-    c.stride.ensures
-    c.packed-axis.ensures
+    c.stride-along.ensures
+    c.packed-2.ensures
     c.diagonal_of.ensures
-    c.stride-2.ensures
-    c.packed-diagonal.ensures
-    c.packed.ensures c.line_by-s.ensures
-    c.cursor_at-c.ensures
+    c.stride-across.ensures
+    c.packed-3.ensures
+    c.packed.ensures
+    (line_walked _ _ _ _ _ _ _ _ _ c.stroke.ensures c.walk-place.ensures)
+    c.cursor_at.ensures

@@ -7,9 +7,6 @@ use Rattle.walks.proofs.WalkLaws.{rows_on, rows_end}
 use borrow.Author.Rules.{rules}
 use Rattle.walks.proofs.side.rows_bits.Goals as goal
 
-pub loop-i-init : goal.loop-i-init
-loop-i-init c = record { small = search rules; long = refl; same = refl }
-
 pub row_bits-s-requires : goal.row_bits-s-requires
 row_bits-s-requires c =
     (c.requires.0, c.loop-i.invariant.small)
@@ -22,22 +19,15 @@ overflow_add-s c =
       stride_small c.stride-down.ensures,
     )
 
-pub loop-i-smaller : goal.loop-i-smaller
-loop-i-smaller c = omega arith
-
 pub loop-i-preserved : goal.loop-i-preserved
 loop-i-preserved c = let l = c.loop-i in
     record {
       small = omega arith;
-      long = c.row_bits-s.auto.mem ∙ l.invariant.long;
       same = l.invariant.same ∙ rows_on _ _ _ _ _ c.loop-i-test.true
           c.columns_of-columns.ensures c.row_bits-s.ensures
           (next_bits c.args.b _ l.invariant.small refl
           c.stride-down.ensures);
     }
-
-pub shape_of-mem : goal.shape_of-mem
-shape_of-mem c = c.loop-i.invariant.long
 
 pub returns : goal.returns
 returns c = rows_end _ _ _ _ _ c.loop-i-test.false ∙ sym c.loop-i.invariant.same

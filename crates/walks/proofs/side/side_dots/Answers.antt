@@ -1,7 +1,7 @@
 -- `side_dots`: what is left to do from here is what was to do from the start, a side at a time (`side_on`).
 use mathlib.Core.Path.{refl, sym, ◌∙◌}
 use native.Mathlib.Omega.{arith}
-use Rattle.walks.proofs.LoopLaws.{straight_lt}
+use Rattle.walks.proofs.LoopLaws.{straight_walked, straight_lt}
 use Rattle.walks.proofs.BitLaws.{stride_small, side_past, side_on, sides_end}
 use borrow.Author.Rules.{rules}
 use Rattle.walks.proofs.side.side_dots.Goals as goal
@@ -12,8 +12,8 @@ loop-i-init c = record { small = search rules; long = refl; same = refl }
 pub side_end-requires : goal.side_end-requires
 side_end-requires c = (c.requires.0, omega arith)
 
-pub straight_any-a-requires : goal.straight_any-a-requires
-straight_any-a-requires c =
+pub walk-a-requires : goal.walk-a-requires
+walk-a-requires c =
     (c.loop-i.invariant.small, stride_small c.stride-step.ensures)
 
 pub loop-i-smaller : goal.loop-i-smaller
@@ -26,17 +26,18 @@ loop-i-smaller c =
     )
 
 pub loop-i-preserved : goal.loop-i-preserved
-loop-i-preserved c = let l = c.loop-i in
+loop-i-preserved c =
+    let l = c.loop-i in
+    let w = straight_walked _ _ _ _ _ _ _ _ _ c.stroke.ensures c.walk-a.ensures in
     record {
-      small = straight_lt _ _ _ _ _ 0 _ _ _ _ _ _ l.invariant.small c.straight_any-a.ensures;
-      long = c.straight_any-a.auto.mem ∙ l.invariant.long;
+      small = straight_lt _ _ _ _ _ _ _ _ _ _ _ l.invariant.small w;
+      long = c.walk-a.auto.mem ∙ l.invariant.long;
       same = l.invariant.same ∙ side_on _ _ _ _ _ _ _ _ _
           c.requires.0 l.invariant.small
           c.loop-i-test.true
           c.side_end.ensures
           c.least_of-e.ensures
-          c.direction_at.ensures c.stride-step.ensures
-          c.straight_any-a.ensures;
+          c.direction_at.ensures c.stride-step.ensures w;
     }
 
 pub shape_of-mem : goal.shape_of-mem
@@ -44,5 +45,5 @@ shape_of-mem c = c.loop-i.invariant.long
 
 pub returns : goal.returns
 returns c =
-    sides_end _ _ _ _ c.loop-i.a _ c.cursor_at-c.ensures c.loop-i-test.false
+    sides_end _ _ _ _ c.loop-i.a _ c.cursor_at.ensures c.loop-i-test.false
     ∙ sym c.loop-i.invariant.same

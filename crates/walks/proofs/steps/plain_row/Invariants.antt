@@ -1,16 +1,9 @@
 -- `plain_row`: what is left to do from here is what was to do from the start (`row_on`).
 use mathlib.Core.Path.{◌≡◌}
 use Prim.Native.Nat.{◌-◌}
-use lib.ListN.{length}
 use Rattle.walks.specs.Walk.{row_walk}
 use Rattle.walks.proofs.steps.plain_row.Given as goal
 
 abbrev pub invariant-loop-i : goal.invariant-loop-i
 invariant-loop-i l =
-    record {
-      long : length l.mem ≡ length l.initial.mem;
-      same : row_walk l.b (l.end - l.x) l.y l.x l.initial.c l.initial.mem ≡ row_walk l.b (l.end - l.i) l.y l.i l.c l.mem;
-    }
-
-abbrev pub decreases-loop-i : goal.decreases-loop-i
-decreases-loop-i l = l.end - l.i
+    row_walk l.b (l.end - l.x) l.y l.x l.initial.c l.initial.mem ≡ row_walk l.b (l.end - l.i) l.y l.i l.c l.mem
