@@ -5,28 +5,24 @@ ghost use Rattle.std.specs.Prelude.{◌≡◌};
 ghost use Rattle.blocks.specs.Answer.{refusal_unless, or_else};
 ghost use Rattle.blocks.specs.Block.{check_of, zeros_b, head_b, block_refusal, blocks_checked};
 
-// A block's bytes, the words that its check sums up, and what the sum starts from.
-const BLOCK_BYTES: u32 = 512;
+use records::{BLOCK_BYTES, RECORDS_AT, RECORD_BYTES};
 
+// The words of a block that its check sums up, and what the sum starts from.
 const WORDS: u32 = 255;
 
 const CHECK_START: u16 = 7220;
 
-// Where a block's check, its spare bytes and its records stand, and how many bytes the last two have.
+// Where a block's check and its spare bytes stand, and how many bytes these and the records have.
 const CHECK_AT: u32 = 510;
 
 const SPARE_AT: u32 = 504;
 
 const SPARE_BYTES: u32 = 6;
 
-const RECORDS_AT: u32 = 4;
-
 const RECORDS_BYTES: u32 = 500;
 
-const RECORD_BYTES: u32 = 10;
-
 // How many figures a block may have.
-const FIGURES: u8 = 50;
+pub const FIGURES: u8 = 50;
 
 // The numbers of a block's refusals.
 const WRONG_CHECK: u8 = 14;
@@ -63,12 +59,9 @@ pub fn first_refusal(a: Answer, b: Answer) -> Answer
 fn check_sum(s: &[u8], b: u16) -> u16
     ensures { result ≡ check_of s.now b }
 {
-    let mut sum: u16 = CHECK_START;
-    let mut i: u32 = 0;
-    while i < WORDS {
-        let word = records::word_at(s, BLOCK_BYTES * b as u32 + 2 * i);
-        sum = std::num::wrapping_add_u16(sum, word);
-        i += 1;
+    let mut sum = CHECK_START;
+    for i in 0..WORDS {
+        sum = sum.wrapping_add(records::word_at(s, BLOCK_BYTES * u32::from(b) + 2 * i));
     }
     sum
 }
@@ -77,12 +70,10 @@ fn check_sum(s: &[u8], b: u16) -> u16
 fn zeros(s: &[u8], at: u32, n: u32) -> bool
     ensures { result ≡ zeros_b n s.now at }
 {
-    let mut i: u32 = 0;
-    while i < n {
+    for i in 0..n {
         if records::byte_at(s, at as usize + i as usize) != 0 {
             return false;
         }
-        i += 1;
     }
     true
 }
@@ -120,8 +111,7 @@ fn block_refusal(s: &[u8], b: u16, n: u8) -> u8
 pub fn check_blocks(s: &[u8], n: u8) -> Answer
     ensures { result ≡ blocks_checked s.now n }
 {
-    let mut b: u16 = 0;
-    while b < n as u16 {
+    for b in 0..n as u16 {
         let x = block_refusal(s, b, n);
         if x != 0 {
             return Answer {
@@ -130,7 +120,6 @@ pub fn check_blocks(s: &[u8], n: u8) -> Answer
                 second: 0,
             };
         }
-        b += 1;
     }
     Answer {
         number: 0,

@@ -54,12 +54,12 @@ pub struct Raw {
     pub factor: u8,
 }
 
-// Where a block stands in a sheet, and its records in it.
-const BLOCK_BYTES: u32 = 512;
+// A block's bytes, where its records stand in it, and a record's bytes.
+pub const BLOCK_BYTES: u32 = 512;
 
-const RECORDS_AT: u32 = 4;
+pub const RECORDS_AT: u32 = 4;
 
-const RECORD_BYTES: u32 = 10;
+pub const RECORD_BYTES: u32 = 10;
 
 // The kinds of records.
 const DOT: u8 = 1;

@@ -9,7 +9,7 @@ use lib.Dec.{eqb, leb}
 use lib.ListN.{length}
 use borrow.Author.Tests.{leb-true, eqb-true}
 use Rattle.records.specs.declared.Room.{Room}
-use Rattle.records.specs.declared.Decoded.{Decoded}
+use Rattle.records.specs.Decode.{Decoded}
 use Rattle.records.specs.Refused.{number_of}
 use Rattle.records.proofs.TestLaws.{and_both}
 use Rattle.blocks.specs.declared.Answer.{Answer}

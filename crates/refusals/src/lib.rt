@@ -7,12 +7,12 @@ ghost use Rattle.refusals.specs.Refusals.{plane_b, table_b, sheet_length_b, plan
 ghost use Rattle.refusals.specs.Refusals.{room_of, sheet_refusal};
 
 use blocks::Answer;
-use records::{Decoded, Room};
+use records::{Record, Refusal, Room};
 
 // A block's bytes and its records; a glyph's bytes.
-pub const BLOCK_BYTES: usize = 512;
+pub const BLOCK_BYTES: usize = records::BLOCK_BYTES as usize;
 
-pub const RECORDS: u16 = 50;
+pub const RECORDS: u16 = blocks::FIGURES as u16;
 
 const GLYPH_BYTES: usize = 8;
 
@@ -32,7 +32,7 @@ pub fn used(s: &[u8], k: u16) -> bool
 }
 
 // What a slot's record stands for.
-pub fn slot_decoded(s: &[u8], k: u16, m: Room) -> Decoded
+pub fn slot_decoded(s: &[u8], k: u16, m: Room) -> Result<Record, Refusal>
     ensures { result ≡ slot_decoded s.now m k }
 {
     records::judge(
@@ -55,8 +55,7 @@ fn slot_refusal(s: &[u8], k: u16, m: Room) -> u8
 fn check_records(s: &[u8], n: u8, m: Room) -> Answer
     ensures { result ≡ records_checked s.now m n }
 {
-    let mut k: u16 = 0;
-    while k < RECORDS * n as u16 {
+    for k in 0..RECORDS * n as u16 {
         let x = slot_refusal(s, k, m);
         if x != 0 {
             return Answer {
@@ -65,7 +64,6 @@ fn check_records(s: &[u8], n: u8, m: Room) -> Answer
                 second: (k % RECORDS) as u32,
             };
         }
-        k += 1;
     }
     Answer {
         number: 0,
