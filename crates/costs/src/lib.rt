@@ -123,8 +123,8 @@ fn counted(s: &[u8], n: u8, m: Room) -> Cost
 pub fn cost_of(s: &[u8], p: u32, h: u32, t: &[u8]) -> Cost
     ensures { result ≡ cost_def s.now p h t.now }
 {
-    let refusal = refusals::sheet_refusal(s, p, h, t);
-    if refusal.number != 0 {
+    if let Err(why) = refusals::sheet_refusal(s, p, h, t) {
+        let refusal = why.answer();
         return Cost {
             number: refusal.number,
             first: refusal.first,

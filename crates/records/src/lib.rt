@@ -235,7 +235,8 @@ pub fn judge(m: Room, d: Result<Record, Refusal>) -> Result<Record, Refusal>
     if inside(m, r.figure) { Ok(r) } else { Err(Refusal::Outside) }
 }
 
-fn why_number(w: Refusal) -> u8
+// The number of a record's refusal.
+pub fn why_number(w: Refusal) -> u8
     ensures { result ≡ why_number w }
 {
     match w {

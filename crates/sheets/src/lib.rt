@@ -2,19 +2,17 @@
 #![tactic(auto)]
 
 ghost use Rattle.std.specs.Prelude.{◌≡◌, ◌+◌};
+ghost use Rattle.blocks.specs.Refused.{answered};
 ghost use Rattle.entries.specs.Entries.{placed};
 ghost use Rattle.sheets.specs.Slots.{slot_figures, listed, figures, sized, translated, translation};
 ghost use Rattle.sheets.specs.Sheet.{outcome, translate_def};
 
-use blocks::Answer;
+use blocks::Refused;
 use records::{Record, Room};
 use refusals::{BLOCK_BYTES, RECORDS};
 
 // The command PITCH as an entry.
 const PITCH: u16 = 0x147;
-
-// The number of refusal of an output too short.
-const SHORT: u8 = 20;
 
 // A slot's figure, where the slot is used and its record is no refusal.
 pub fn slot_figure(s: &[u8], k: u16, m: Room) -> Option<Record>
@@ -73,29 +71,18 @@ fn write_out(out: &mut [u16], s: &[u8], n: u8, m: Room, t: &[u8], p: u8)
     }
 }
 
-// The sheet s becomes entries at the output's start, for a plane of P words by H lines and the glyph table t.
-pub fn translate(s: &[u8], p: u32, h: u32, t: &[u8], out: &mut [u16]) -> Answer
-    ensures { outcome result out.new ≡ translate_def s.now p h t.now out.old }
+// The sheet s becomes entries at the output's start, for a plane of P words by H lines and the glyph table t; how many they are.
+pub fn translate(s: &[u8], p: u32, h: u32, t: &[u8], out: &mut [u16]) -> Result<u32, Refused>
+    ensures { outcome (answered result) out.new ≡ translate_def s.now p h t.now out.old }
 {
-    let refusal = refusals::sheet_refusal(s, p, h, t);
-    if refusal.number != 0 {
-        return refusal;
-    }
+    refusals::sheet_refusal(s, p, h, t)?;
     let words = p as u8;
     let n = (s.len() / BLOCK_BYTES) as u8;
     let m = refusals::room_of(words, h as u16, t.len() as u16);
     let need = entries_needed(s, n, m);
     if out.len() < need as usize {
-        return Answer {
-            number: SHORT,
-            first: need,
-            second: 0,
-        };
+        return Err(Refused::Short(need));
     }
     write_out(out, s, n, m, t, words);
-    Answer {
-        number: 0,
-        first: need,
-        second: 0,
-    }
+    Ok(need)
 }
