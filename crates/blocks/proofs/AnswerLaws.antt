@@ -1,12 +1,18 @@
 -- Refusals in their order: what `or_else` answers, and the turns of a loop that stops at the first refusal. The first refusal is none just
 -- where no place
 -- has one. True by cases on the number, and by induction on the places left.
-use Rattle.std.proofs.Common.{◌≡◌, ℕ, zero, suc, ◌+◌, ◌-◌, ◌<◌, ◌≤◌, Bool, true, false, cond, eqb, sym, refl, ◌∙◌, subst, arith, eq-eqb}
+use Rattle.std.proofs.Common.{◌≡◌, ℕ, zero, suc, ◌+◌, ◌-◌, ◌<◌, ◌≤◌, Bool, true, false, cond, eqb, sym, refl, ap, ◌∙◌, subst, arith, eq-eqb}
 use Rattle.std.proofs.Common.{ne_eqb, eqb-true}
 use mathlib.Core.Bool.{false≢true}
 use borrow.Author.Tests.{eqb-false}
 use Rattle.blocks.specs.declared.Answer.{Answer}
-use Rattle.blocks.specs.Answer.{answer, or_else, first_from}
+use Rattle.records.specs.declared.Refusal.{Refusal}
+use Rattle.records.specs.declared.Refusal.TheVariants as whys
+use Rattle.records.specs.Refused.{why_number}
+use Rattle.blocks.specs.declared.Refused.{Refused}
+use Rattle.blocks.specs.declared.Refused.TheVariants.{Plane, Table, Length, Check, Heading, Slot, Short}
+use Rattle.blocks.specs.Answer.{answer, refusal_unless, unless, or_else, first_from}
+use Rattle.blocks.specs.Refused.{refused, checked}
 
 -- ---- one after the other
 pub or_first : (a b : Answer) → (a.number ≡ 0 → ⊥) → or_else a b ≡ a
@@ -38,6 +44,34 @@ module _ (a : ℕ → Answer) (n k : ℕ) where
   pub first_end : n ≤ k → answer 0 0 0 ≡ first_from a (n - k) k
   unfolding first_from
   first_end h = let e : n - k ≡ zero = omega arith in rw e
+
+-- ---- .. as the code has them: a refusal's number is not 0
+why_some : (w : Refusal) → why_number w ≡ 0 → ⊥
+why_some whys.Form e = absurd (omega arith)
+why_some whys.GlyphNumber e = absurd (omega arith)
+why_some whys.Factor e = absurd (omega arith)
+why_some whys.Radius e = absurd (omega arith)
+why_some whys.Outside e = absurd (omega arith)
+
+pub refused_some : (w : Refused) → (refused w).number ≡ 0 → ⊥
+refused_some Plane e = absurd (omega arith)
+refused_some Table e = absurd (omega arith)
+refused_some Length e = absurd (omega arith)
+refused_some (Check b) e = absurd (omega arith)
+refused_some (Heading b) e = absurd (omega arith)
+refused_some (Slot b i w) e = why_some w e
+refused_some (Short n) e = absurd (omega arith)
+
+pub unless_is : (t : Bool) (w : Refused) {n : ℕ} → refused w ≡ answer n 0 0 → checked (unless t w) ≡ refusal_unless t n
+unless_is true w e = refl
+unless_is false w e = e
+
+module _ (a : ℕ → Answer) (n k : ℕ) (h : k < n) where
+  pub err_stops : (w : Refused) → refused w ≡ a k → refused w ≡ first_from a (n - k) k
+  err_stops w p = first_stop a n k h p (refused_some w)
+
+  pub ok_goes_on : {u v : ℕ} → answer 0 u v ≡ a k → first_from a (n - k) k ≡ first_from a (n - (k + 1)) (k + 1)
+  ok_goes_on p = first_go_on a n k h (sym (ap (λ (x : Answer). x.number) p))
 
 -- ---- none at all
 module _ (a : ℕ → Answer) where

@@ -76,13 +76,6 @@ module _ (s : List ℕ) (n b : ℕ) where
   unfolding blocks_checked
   blocks_start = first_start (block_answer s n) n
 
-  pub blocks_stop : {x : ℕ} → b < n → x ≡ block_refusal s n b → (x ≡ 0 → ⊥) → answer x b 0 ≡ first_from (block_answer s n) (n - b) b
-  blocks_stop h p z = first_stop (block_answer s n) n b h (ap (λ (y : ℕ). answer y b 0) p) z
-
-  pub blocks_go_on : {x : ℕ} → b < n → x ≡ block_refusal s n b → x ≡ 0
-      → first_from (block_answer s n) (n - b) b ≡ first_from (block_answer s n) (n - (b + 1)) (b + 1)
-  blocks_go_on h p z = first_go_on (block_answer s n) n b h (sym p ∙ z)
-
   pub blocks_end : n ≤ b → answer 0 0 0 ≡ first_from (block_answer s n) (n - b) b
   blocks_end h = first_end (block_answer s n) n b h
 

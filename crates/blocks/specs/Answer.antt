@@ -1,5 +1,5 @@
 -- 01, Numbers of refusal: a number and two values; "Checks run in table order".
-use Rattle.std.specs.Prelude.{ℕ, zero, suc, ◌+◌, Bool, cond, ◌==◌}
+use Rattle.std.specs.Prelude.{ℕ, zero, suc, ◌+◌, Bool, cond, ◌==◌, Result, Ok, Err}
 use Rattle.blocks.specs.declared.Answer.{Answer}
 
 abbrev pub answer : ℕ → ℕ → ℕ → Answer
@@ -8,6 +8,10 @@ answer n a b = record { number = n; first = a; second = b }
 -- a refusal that "returns 0, 0" where a test fails; "Success is number 0"
 abbrev pub refusal_unless : Bool → ℕ → Answer
 refusal_unless ok n = answer (cond ok 0 n) 0 0
+
+-- .. as the code has it: good where the test holds
+abbrev pub unless : {E : Type 0} → Bool → E → Result (Unit {0}) E
+unless ok why = cond ok (Ok tt) (Err why)
 
 -- the first answer if it is a refusal, else the second ("Success is number 0")
 abbrev pub or_else : Answer → Answer → Answer

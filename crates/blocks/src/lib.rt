@@ -2,38 +2,43 @@
 #![tactic(auto)]
 
 ghost use Rattle.std.specs.Prelude.{◌≡◌};
-ghost use Rattle.blocks.specs.Answer.{refusal_unless, or_else};
-ghost use Rattle.blocks.specs.Block.{check_of, zeros_b, head_b, block_refusal, blocks_checked};
+ghost use Rattle.blocks.specs.Answer.{unless};
+ghost use Rattle.blocks.specs.Refused.{refused, checked, checked_at, answered};
+ghost use Rattle.blocks.specs.Block.{check_of, zeros_b, head_b, block_answer, blocks_checked};
 
-// A block's bytes, the words that its check sums up, and what the sum starts from.
-const BLOCK_BYTES: u32 = 512;
+use records::{BLOCK_BYTES, RECORDS_AT, RECORD_BYTES, Refusal};
 
+// The words of a block that its check sums up, and what the sum starts from.
 const WORDS: u32 = 255;
 
 const CHECK_START: u16 = 7220;
 
-// Where a block's check, its spare bytes and its records stand, and how many bytes the last two have.
+// Where a block's check and its spare bytes stand, and how many bytes these and the records have.
 const CHECK_AT: u32 = 510;
 
 const SPARE_AT: u32 = 504;
 
 const SPARE_BYTES: u32 = 6;
 
-const RECORDS_AT: u32 = 4;
-
 const RECORDS_BYTES: u32 = 500;
 
-const RECORD_BYTES: u32 = 10;
-
 // How many figures a block may have.
-const FIGURES: u8 = 50;
+pub const FIGURES: u8 = 50;
 
-// The numbers of a block's refusals.
-const WRONG_CHECK: u8 = 14;
+// Why a sheet is refused: the plane, the glyph table, the sheet's length; a block's check, or its heading, spare bytes or unused records;
+// a record; an output shorter than the entries needed.
+#[derive(Clone, Copy)]
+pub enum Refused {
+    Plane,
+    Table,
+    Length,
+    Check(u16),
+    Heading(u16),
+    Slot { block: u16, index: u16, why: Refusal },
+    Short(u32),
+}
 
-const WRONG_HEADING: u8 = 15;
-
-// An answer: the number of the refusal or 0, and the two values with it.
+// An answer in numbers, as it is printed and as C has it: the number of the refusal or 0, and the two values with it.
 #[derive(Clone, Copy)]
 pub struct Answer {
     pub number: u8,
@@ -41,34 +46,58 @@ pub struct Answer {
     pub second: u32,
 }
 
-// A refusal with 0, 0 where a test fails.
-pub fn refusal_unless(ok: bool, number: u8) -> Answer
-    ensures { result ≡ refusal_unless ok number }
-{
-    Answer {
-        number: if ok { 0 } else { number },
-        first: 0,
-        second: 0,
+impl Refused {
+    // The number and the values of a refusal.
+    pub fn answer(self) -> Answer
+        ensures { result ≡ refused self }
+    {
+        let (number, first, second) = match self {
+            Refused::Plane => (11, 0, 0),
+            Refused::Table => (12, 0, 0),
+            Refused::Length => (13, 0, 0),
+            Refused::Check(block) => (14, u32::from(block), 0),
+            Refused::Heading(block) => (15, u32::from(block), 0),
+            Refused::Slot { block, index, why } => {
+                (records::why_number(why), u32::from(block), u32::from(index))
+            }
+            Refused::Short(needed) => (20, needed, 0),
+        };
+        Answer {
+            number,
+            first,
+            second,
+        }
     }
 }
 
-// The first answer if it is a refusal, else the second.
-pub fn first_refusal(a: Answer, b: Answer) -> Answer
-    ensures { result ≡ or_else a b }
+// The answer of a translation in numbers, with the entries written where it is accepted.
+pub fn told(r: Result<u32, Refused>) -> Answer
+    ensures { result ≡ answered r }
 {
-    if a.number == 0 { b } else { a }
+    match r {
+        Ok(written) => Answer {
+            number: 0,
+            first: written,
+            second: 0,
+        },
+        Err(why) => why.answer(),
+    }
+}
+
+// A refusal where a test fails.
+pub fn refusal_unless(ok: bool, why: Refused) -> Result<(), Refused>
+    ensures { result ≡ unless ok why }
+{
+    if ok { Ok(()) } else { Err(why) }
 }
 
 // A block's check: the sum of its 255 words before the last, plus 7220, modulo 65,536.
 fn check_sum(s: &[u8], b: u16) -> u16
     ensures { result ≡ check_of s.now b }
 {
-    let mut sum: u16 = CHECK_START;
-    let mut i: u32 = 0;
-    while i < WORDS {
-        let word = records::word_at(s, BLOCK_BYTES * b as u32 + 2 * i);
-        sum = std::num::wrapping_add_u16(sum, word);
-        i += 1;
+    let mut sum = CHECK_START;
+    for i in 0..WORDS {
+        sum = sum.wrapping_add(records::word_at(s, BLOCK_BYTES * u32::from(b) + 2 * i));
     }
     sum
 }
@@ -77,12 +106,10 @@ fn check_sum(s: &[u8], b: u16) -> u16
 fn zeros(s: &[u8], at: u32, n: u32) -> bool
     ensures { result ≡ zeros_b n s.now at }
 {
-    let mut i: u32 = 0;
-    while i < n {
+    for i in 0..n {
         if records::byte_at(s, at as usize + i as usize) != 0 {
             return false;
         }
-        i += 1;
     }
     true
 }
@@ -104,37 +131,25 @@ fn headed(s: &[u8], b: u16, n: u8) -> bool
     (number == b) & (last == (b as u32 + 1 == n as u32) as u8) & spare & unused
 }
 
-fn block_refusal(s: &[u8], b: u16, n: u8) -> u8
-    ensures { result ≡ block_refusal s.now n b }
+// Block b of n: its check, then its heading.
+fn check_block(s: &[u8], b: u16, n: u8) -> Result<(), Refused>
+    ensures { checked_at b 0 result ≡ block_answer s.now n b }
 {
     if check_sum(s, b) != records::word_at(s, BLOCK_BYTES * b as u32 + CHECK_AT) {
-        return WRONG_CHECK;
+        return Err(Refused::Check(b));
     }
     if !headed(s, b, n) {
-        return WRONG_HEADING;
+        return Err(Refused::Heading(b));
     }
-    0
+    Ok(())
 }
 
 // The first of n blocks that is refused.
-pub fn check_blocks(s: &[u8], n: u8) -> Answer
-    ensures { result ≡ blocks_checked s.now n }
+pub fn check_blocks(s: &[u8], n: u8) -> Result<(), Refused>
+    ensures { checked result ≡ blocks_checked s.now n }
 {
-    let mut b: u16 = 0;
-    while b < n as u16 {
-        let x = block_refusal(s, b, n);
-        if x != 0 {
-            return Answer {
-                number: x,
-                first: b as u32,
-                second: 0,
-            };
-        }
-        b += 1;
+    for b in 0..n as u16 {
+        check_block(s, b, n)?;
     }
-    Answer {
-        number: 0,
-        first: 0,
-        second: 0,
-    }
+    Ok(())
 }

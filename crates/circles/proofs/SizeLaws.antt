@@ -15,10 +15,6 @@ use Rattle.circles.specs.Circle.{out_below, circle_out, last_below, largest, coi
 use Rattle.circles.proofs.OutLaws.{square_le, out_lies, out_le, out_is, out_of, out_positive, within, within_r, to_largest}
 use Rattle.circles.proofs.CircleLaws.{arc_circle, arc_starts}
 
--- no square of a number of 16 bits, or of one more, passes 33 bits
-pub square_small : (i : ℕ) → i ≤ 65536 → i * i ≤ 4294967296
-square_small i h = let f : i * i ≤ 65536 * 65536 = square_le h in f
-
 -- ---- the largest i
 pub largest_is : (r i : ℕ) → 2 * (i * i) ≤ r * r → r * r < 2 * (suc i * suc i) → i ≡ largest r
 largest_is r i h k = at (dec_lt i (largest r))

@@ -8,19 +8,14 @@ ghost use Rattle.circles.specs.Circle.{largest, coincide};
 pub fn largest_of(r: u16) -> u16
     ensures { result ≡ largest r }
 {
-    let limit = r as u64 * r as u64;
-    let mut i: u64 = 0;
-    while 2 * ((i + 1) * (i + 1)) <= limit {
-        i += 1;
-    }
-    i as u16
+    (u32::from(r) * u32::from(r) / 2).isqrt() as u16
 }
 
 // Whether the octants' last dots coincide on the diagonal.
 pub fn coincides(r: u16) -> bool
     ensures { result ≡ coincide r }
 {
-    let limit = r as u64 * r as u64;
-    let i = largest_of(r) as u64;
+    let limit = u64::from(r) * u64::from(r);
+    let i = u64::from(largest_of(r));
     limit <= 2 * (i * i) + i
 }

@@ -8,7 +8,7 @@ ghost use Rattle.costs.specs.Dots.{line_dots, border_dots, figure_dots};
 ghost use Rattle.costs.specs.Cost.{cost_def};
 ghost use Rattle.costs.specs.Share.{share_of, cost_by};
 
-use records::{Decoded, Figure, Room};
+use records::{Figure, Room};
 use refusals::{BLOCK_BYTES, RECORDS};
 
 // What a sheet costs: a number of refusal with its two values; or 0 with the entries needed and 0, how many figures there are, and the
@@ -34,10 +34,7 @@ pub struct Share {
 fn line_dots(a: u16, b: u16) -> u32
     ensures { result ≡ line_dots a b }
 {
-    if a < b {
-        return b as u32 + 1;
-    }
-    a as u32 + 1
+    u32::from(a.max(b)) + 1
 }
 
 // The dots of a rectangle's border over these distances: all round, or the line's where it is flat.
@@ -75,16 +72,10 @@ fn figure_dots(f: Figure) -> u32
 {
     match f {
         Figure::Dot(_) => 1,
-        Figure::Line(a, b) => line_dots(entries::apart(a.x, b.x), entries::apart(a.y, b.y)),
-        Figure::Rectangle(a, b) => {
-            border_dots(entries::apart(a.x, b.x), entries::apart(a.y, b.y))
-        }
-        Figure::Glyph {
-            at: _,
-            number: _,
-            factor,
-        } => glyph_dots(factor),
-        Figure::Circle { centre: _, radius } => circle_dots(radius),
+        Figure::Line(a, b) => line_dots(a.x.abs_diff(b.x), a.y.abs_diff(b.y)),
+        Figure::Rectangle(a, b) => border_dots(a.x.abs_diff(b.x), a.y.abs_diff(b.y)),
+        Figure::Glyph { factor, .. } => glyph_dots(factor),
+        Figure::Circle { radius, .. } => circle_dots(radius),
     }
 }
 
@@ -92,23 +83,17 @@ fn figure_dots(f: Figure) -> u32
 fn slot_share(s: &[u8], k: u16, m: Room) -> Share
     ensures { result ≡ share_of (slot_figures s.now m k) }
 {
-    let none = Share {
-        figures: 0,
-        entries: 0,
-        dots: 0,
-    };
-    if !refusals::used(s, k) {
-        return none;
-    }
-    let d = refusals::slot_decoded(s, k, m);
-    let Decoded::Good(r) = d else {
-        return none;
-    };
-    let figure = r.figure;
-    Share {
-        figures: 1,
-        entries: entries::size_of(r),
-        dots: figure_dots(figure),
+    match sheets::slot_figure(s, k, m) {
+        Some(r) => Share {
+            figures: 1,
+            entries: entries::size_of(r),
+            dots: figure_dots(r.figure),
+        },
+        None => Share {
+            figures: 0,
+            entries: 0,
+            dots: 0,
+        },
     }
 }
 
@@ -119,19 +104,17 @@ fn counted(s: &[u8], n: u8, m: Room) -> Cost
     let mut figures: u32 = 0;
     let mut entries: u32 = 2;
     let mut dots: u64 = 0;
-    let mut k: u16 = 0;
-    while k < RECORDS * n as u16 {
+    for k in 0..RECORDS * n as u16 {
         let x = slot_share(s, k, m);
         figures += x.figures;
         entries += x.entries;
         dots += x.dots as u64;
-        k += 1;
     }
     Cost {
         number: 0,
         first: entries,
         second: 0,
-        figures: figures,
+        figures,
         units: entries as u64 + dots,
     }
 }
@@ -140,8 +123,8 @@ fn counted(s: &[u8], n: u8, m: Room) -> Cost
 pub fn cost_of(s: &[u8], p: u32, h: u32, t: &[u8]) -> Cost
     ensures { result ≡ cost_def s.now p h t.now }
 {
-    let refusal = refusals::sheet_refusal(s, p, h, t);
-    if refusal.number != 0 {
+    if let Err(why) = refusals::sheet_refusal(s, p, h, t) {
+        let refusal = why.answer();
         return Cost {
             number: refusal.number,
             first: refusal.first,

@@ -10,6 +10,7 @@ use Prim.Native.Nat.{ℕ, zero, suc, ◌+◌, ◌*◌, ◌≤◌, ◌<◌}
 use native.Mathlib.Omega.{arith}
 use lib.Dec.{eqb, ltb, leb}
 use borrow.Author.Tests.{ltb-true, leb-true, eqb-true, eqb-false}
+use Rattle.std.specs.Prelude.{Ok, Err}
 use Rattle.dots.specs.Operation.{operation_of}
 use Rattle.geometry.specs.Plane.{InPlane}
 use Rattle.geometry.proofs.TestLaws.{cases, and_both}
@@ -21,11 +22,9 @@ use Rattle.records.specs.declared.Point.{Point}
 use Rattle.records.specs.declared.Record.{Record}
 use Rattle.records.specs.declared.Figure.{Figure}
 use Rattle.records.specs.declared.Figure.TheVariants.{Dot, Line, Rectangle, Glyph, Circle}
-use Rattle.records.specs.declared.Decoded.{Decoded}
-use Rattle.records.specs.declared.Decoded.TheVariants.{Good, Refused}
 use Rattle.records.specs.Raw.{raw_at}
 use Rattle.records.specs.declared.Refusal.TheVariants.{Form, GlyphNumber, Factor, Radius}
-use Rattle.records.specs.Decode.{point, record_form_b, known_b, factor_b, radius_b, figure_of, decoded_of, decoded_at}
+use Rattle.records.specs.Decode.{Decoded, point, record_form_b, known_b, factor_b, radius_b, figure_of, decoded_of, decoded_at}
 use Rattle.records.specs.Inside.{point_b, inside_b, judged}
 use Rattle.records.proofs.FormLaws.{Formed, form_means, factor_means, radius_means, else_circle}
 use Rattle.refusals.specs.Refusals.{room_of, place_of, used_b, slot_decoded}
@@ -88,9 +87,9 @@ module _ (p h k : ℕ) where
   abbrev m : Room
   m = room_of p h k
 
-  abbrev Ok : Decoded → Type 0
-  Ok (Good r) = Inside p h r.figure
-  Ok (Refused w) = Unit
+  abbrev Lies : Decoded → Type 0
+  Lies (Ok r) = Inside p h r.figure
+  Lies (Err w) = Unit
 
   in_plane : (a : Point) → point_b m a ≡ true → InPlane p h a.x a.y
   in_plane a e =
@@ -121,16 +120,16 @@ module _ (p h k : ℕ) where
       }
 
   -- what the decoder gives is judged
-  ok_decoded : (r : Raw) (g : ℕ) → Ok (judged m (decoded_of r g))
+  ok_decoded : (r : Raw) (g : ℕ) → Lies (judged m (decoded_of r g))
   unfolding decoded_of
   ok_decoded r g =
       go (record_form_b r) refl (known_b r g) (factor_b r) refl (radius_b r) refl
     where
       go : (a : Bool) → record_form_b r ≡ a → (b c : Bool) → factor_b r ≡ c → (d : Bool) → radius_b r ≡ d
-          → Ok (judged m (cond a (cond b (cond c (cond d (Good (record { op = operation_of r.op; figure = figure_of r })) (Refused Radius))
-          (Refused Factor)) (Refused GlyphNumber)) (Refused Form)))
+          → Lies (judged m (cond a (cond b (cond c (cond d (Ok (record { op = operation_of r.op; figure = figure_of r })) (Err Radius))
+          (Err Factor)) (Err GlyphNumber)) (Err Form)))
       go true e true true f true k =
-          cases Ok (inside_b m (figure_of r)) (in_figure (figure_of r) (measured r (form_means r e) f k)) (λ i. tt)
+          cases Lies (inside_b m (figure_of r)) (in_figure (figure_of r) (measured r (form_means r e) f k)) (λ i. tt)
       go true e true true f false k = tt
       go true e true false f d k = tt
       go true e false c f d k = tt
@@ -140,9 +139,9 @@ module _ (p h k : ℕ) where
   in_append [] b u v = v
   in_append (r ∷ a) b u v = (u.0, in_append a b u.1 v)
 
-  in_decoded : (d : Decoded) → Ok d → AllInside p h (figures_in d)
-  in_decoded (Good r) o = (o, tt)
-  in_decoded (Refused w) o = tt
+  in_decoded : (d : Decoded) → Lies d → AllInside p h (figures_in d)
+  in_decoded (Ok r) o = (o, tt)
+  in_decoded (Err w) o = tt
 
   module _ (s : List ℕ) where
     in_slot : (i : ℕ) → AllInside p h (slot_figures s m i)

@@ -23,9 +23,9 @@ fn refuse(number: u8, first: u32, second: u32, r: Registers) -> Drawn
     ensures { result ≡ refusal number first second r }
 {
     Drawn {
-        number: number,
-        first: first,
-        second: second,
+        number,
+        first,
+        second,
         units: 0,
         earlier: 0,
         regs: r,
@@ -55,28 +55,27 @@ pub fn draw_sheet(
     if !registers::sound(r) {
         return refuse(1, 0, 0, r);
     }
-    let board = r.board;
-    let wiring = board.wiring;
-    if !units::length_right(wiring, mem.len()) {
+    if !units::length_right(r.board.wiring, mem.len()) {
         return refuse(2, 0, 0, r);
     }
     if larger(p, h, mem.len()) {
         return refuse(23, 0, 0, r);
     }
-    let a = sheets::translate(sheet, p, h, glyphs, entries);
-    if a.number != 0 {
-        return refuse(a.number, a.first, a.second, r);
-    }
+    let written = match sheets::translate(sheet, p, h, glyphs, entries) {
+        Ok(written) => written,
+        Err(why) => {
+            let a = why.answer();
+            return refuse(a.number, a.first, a.second, r);
+        }
+    };
     let w = finishing::finish(r, mem);
-    let n = a.first as usize;
-    let q = lists::send_all(w.regs, &entries[..n], mem);
-    let regs = q.regs;
+    let q = lists::send_all(w.regs, &entries[..written as usize], mem);
     Drawn {
         number: 0,
-        first: a.first,
-        second: a.second,
+        first: written,
+        second: 0,
         units: q.units,
         earlier: w.units,
-        regs: regs,
+        regs: q.regs,
     }
 }

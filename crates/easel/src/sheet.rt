@@ -17,13 +17,13 @@ fn translated(d: Desk, papers: &[u8], entries: &mut [u16], room: usize) -> block
     ensures { translatedTo result entries.new ≡ translated_in d papers.now entries.old room }
 {
     let n = buffers::words_used(room, entries);
-    sheets::translate(
+    blocks::told(sheets::translate(
         sheet_of(papers, d.sheet),
         d.across,
         d.down,
         table_of(papers, d.glyphs),
         &mut entries[..n],
-    )
+    ))
 }
 
 // The answer to a translation: its numbers, and the entries of one that was accepted.

@@ -13,8 +13,6 @@ use records::{Figure, Point, Record};
 
 mod way;
 
-pub use way::apart;
-
 // The commands of a translation, each its byte + 256: WDAT of a word with the operation to be added, PRAM at address 8.
 const WDAT: u16 = 0x120;
 
@@ -147,35 +145,22 @@ fn rectangle_entries(p: u8, a: Point, w: u16, h: u16) -> [u16; 20]
     ]
 }
 
-fn wide(x: u8) -> u16
-    ensures { result ≡ x }
-{
-    x as u16
-}
-
 // A row of a glyph: the byte at i, 0 past the end.
 fn row(t: &[u8], i: usize) -> u16
     ensures { result ≡ get_or t.now i 0 }
 {
-    wide(records::byte_at(t, i))
-}
-
-// x - n, and 0 where n is the larger.
-fn less(x: u32, n: u32) -> u32
-    ensures { result ≡ x - n }
-{
-    if x < n { 0 } else { x - n }
+    u16::from(records::byte_at(t, i))
 }
 
 fn glyph_entries(t: &[u8], p: u8, a: Point, n: u8, g: u8) -> [u16; 20]
     ensures { result ≡ glyph_entries t.now p a n g }
 {
     let x = a.x as u32;
-    let e = word_of(p, x, a.y as u32 + less(8 * g as u32, 1));
+    let e = word_of(p, x, a.y as u32 + (8 * g as u32).saturating_sub(1));
     let k = 8 * n as usize;
     [
         ZOOM,
-        less(g as u32, 1) as u16,
+        u16::from(g.saturating_sub(1)),
         CURS,
         (e % 256) as u16,
         (e / 256 % 256) as u16,
@@ -201,10 +186,7 @@ fn glyph_entries(t: &[u8], p: u8, a: Point, n: u8, g: u8) -> [u16; 20]
 fn dc_of(largest: u16, coincide: bool, dir: u16) -> u16
     ensures { result ≡ largest - cond coincide (dir % 2) 0 }
 {
-    if coincide {
-        return less(largest as u32, (dir % 2) as u32) as u16;
-    }
-    largest
+    if coincide { largest.saturating_sub(dir % 2) } else { largest }
 }
 
 // Where the arc of a DIR starts, across.
@@ -213,7 +195,7 @@ fn end_x(x: u16, r: u16, dir: u16) -> u32
     ensures { result ≡ end_x x r dir }
 {
     let middle = x as u32;
-    let left = less(middle, r as u32);
+    let left = middle.saturating_sub(r as u32);
     let right = middle + r as u32;
     let ends = [left, middle, middle, left, right, middle, middle, right];
     ends[dir as usize]
@@ -225,7 +207,7 @@ fn end_y(y: u16, r: u16, dir: u16) -> u32
     ensures { result ≡ end_y y r dir }
 {
     let middle = y as u32;
-    let top = less(middle, r as u32);
+    let top = middle.saturating_sub(r as u32);
     let bottom = middle + r as u32;
     let ends = [middle, top, bottom, middle, middle, bottom, top, middle];
     ends[dir as usize]
@@ -239,7 +221,7 @@ fn arc_entries(p: u8, c: Point, r: u16, dir: u16, dc: u16) -> [u16; 20]
 {
     let x = end_x(c.x, r, dir);
     let e = word_of(p, x, end_y(c.y, r, dir));
-    let d = less(r as u32, 1);
+    let d = (r as u32).saturating_sub(1);
     let dm = dir % 2;
     [
         CURS,
@@ -269,8 +251,8 @@ fn least_of(a: Point, b: Point) -> Point
     ensures { result ≡ least a b }
 {
     Point {
-        x: way::smaller(a.x, b.x),
-        y: way::smaller(a.y, b.y),
+        x: a.x.min(b.x),
+        y: a.y.min(b.y),
     }
 }
 
@@ -278,8 +260,8 @@ fn greatest_of(a: Point, b: Point) -> Point
     ensures { result ≡ greatest a b }
 {
     Point {
-        x: way::larger(a.x, b.x),
-        y: way::larger(a.y, b.y),
+        x: a.x.max(b.x),
+        y: a.y.max(b.y),
     }
 }
 
@@ -288,8 +270,6 @@ fn plain_of(f: Figure) -> Figure
     ensures { result ≡ plain f }
 {
     match f {
-        Figure::Dot(a) => Figure::Dot(a),
-        Figure::Line(a, b) => Figure::Line(a, b),
         Figure::Rectangle(a, b) => {
             let from = least_of(a, b);
             let to = greatest_of(a, b);
@@ -298,15 +278,7 @@ fn plain_of(f: Figure) -> Figure
             }
             Figure::Rectangle(from, to)
         }
-        Figure::Glyph { at, number, factor } => Figure::Glyph {
-            at: at,
-            number: number,
-            factor: factor,
-        },
-        Figure::Circle { centre, radius } => Figure::Circle {
-            centre: centre,
-            radius: radius,
-        },
+        other => other,
     }
 }
 
@@ -314,20 +286,12 @@ fn plain_of(f: Figure) -> Figure
 pub fn size_of(r: Record) -> u32
     ensures { result ≡ size_of r }
 {
-    let figure = r.figure;
-    match plain_of(figure) {
+    match plain_of(r.figure) {
         Figure::Dot(_) => 11,
-        Figure::Line(_, _) => 19,
-        Figure::Rectangle(_, _) => 21,
-        Figure::Glyph {
-            at: _,
-            number: _,
-            factor: _,
-        } => 21,
-        Figure::Circle {
-            centre: _,
-            radius: _,
-        } => 161,
+        Figure::Line(..) => 19,
+        Figure::Rectangle(..) => 21,
+        Figure::Glyph { .. } => 21,
+        Figure::Circle { .. } => 161,
     }
 }
 
@@ -345,10 +309,8 @@ fn put_from(out: &mut [u16], at: usize, e: &[u16])
     requires { at < 8589934592 }
     ensures { out.new ≡ placed out.old at e.now }
 {
-    let mut i: usize = 0;
-    while i < e.len() {
-        store(out, at + i, e[i]);
-        i += 1;
+    for (i, x) in e.iter().enumerate() {
+        store(out, at + i, *x);
     }
 }
 
@@ -365,11 +327,9 @@ fn put_circle(out: &mut [u16], at: usize, p: u8, c: Point, r: u16)
 {
     let largest = circles::largest_of(r);
     let coincide = circles::coincides(r);
-    let mut dir: u16 = 0;
-    while dir < 8 {
+    for dir in 0..8 {
         let dc = dc_of(largest, coincide, dir);
         put_from(out, at + 20 * dir as usize, &arc_entries(p, c, r, dir, dc));
-        dir += 1;
     }
 }
 
@@ -384,7 +344,7 @@ fn put_figure(out: &mut [u16], at: usize, t: &[u8], p: u8, f: Figure)
         Figure::Rectangle(a, b) => put_from(
             out,
             at,
-            &rectangle_entries(p, a, way::apart(a.x, b.x), way::apart(a.y, b.y)),
+            &rectangle_entries(p, a, a.x.abs_diff(b.x), a.y.abs_diff(b.y)),
         ),
         Figure::Glyph {
             at: a,
@@ -399,8 +359,6 @@ fn put_figure(out: &mut [u16], at: usize, t: &[u8], p: u8, f: Figure)
 pub fn put_record(out: &mut [u16], at: u32, t: &[u8], p: u8, r: Record)
     ensures { out.new ≡ placed out.old at (entries_of t.now p r) }
 {
-    let op = r.op;
-    let figure = r.figure;
-    store(out, at as usize, wdat(op));
-    put_figure(out, at as usize + 1, t, p, plain_of(figure));
+    store(out, at as usize, wdat(r.op));
+    put_figure(out, at as usize + 1, t, p, plain_of(r.figure));
 }

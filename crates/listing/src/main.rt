@@ -61,10 +61,8 @@ fn main() {
     let n = io::read_full(0, &mut sheet);
     let glyphs = [0u8; 0];
     let mut entries = [0u16; 128802];
-    let a = sheets::translate(&sheet[..n], 40, 400, &glyphs, &mut entries);
-    if a.number != 0 {
-        print_refusal(a);
-        return;
+    match sheets::translate(&sheet[..n], 40, 400, &glyphs, &mut entries) {
+        Ok(written) => print_entries(&entries, written as usize),
+        Err(why) => print_refusal(why.answer()),
     }
-    print_entries(&entries, a.first as usize);
 }

@@ -304,7 +304,7 @@ pub fn kranichseil_translate(
 ) -> PlainTranslation
     ensures { told result out.new ≡ translate_def sheet.now p h glyphs.now out.old }
 {
-    let a = sheets::translate(sheet, p, h, glyphs, out);
+    let a = blocks::told(sheets::translate(sheet, p, h, glyphs, out));
     PlainTranslation {
         number: a.number,
         first: a.first,

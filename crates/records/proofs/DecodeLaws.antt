@@ -3,46 +3,46 @@
 use mathlib.Core.Path.{◌≡◌}
 use mathlib.Core.Bool.{true, false}
 use Prim.Native.Nat.{ℕ}
+use Rattle.std.specs.Prelude.{Ok, Err}
 use Rattle.dots.specs.Operation.{operation_of}
 use Rattle.records.specs.declared.Raw.{Raw}
 use Rattle.records.specs.declared.Room.{Room}
 use Rattle.records.specs.declared.Record.{Record}
 use Rattle.records.specs.declared.Refusal.{Refusal}
 use Rattle.records.specs.declared.Refusal.TheVariants.{Form, GlyphNumber, Factor, Radius, Outside}
-use Rattle.records.specs.declared.Decoded.{Decoded}
-use Rattle.records.specs.declared.Decoded.TheVariants.{Good, Refused}
+use Rattle.records.specs.Decode.{Decoded}
 use Rattle.records.specs.Decode.{record_form_b, known_b, factor_b, radius_b, figure_of, decoded_of}
 use Rattle.records.specs.Inside.{inside_b, judged}
 
 module _ (r : Raw) (glyphs : ℕ) where
-  pub misformed : record_form_b r ≡ false → Refused Form ≡ decoded_of r glyphs
+  pub misformed : record_form_b r ≡ false → Err Form ≡ decoded_of r glyphs
   unfolding decoded_of
   misformed f = rw f
 
-  pub unknown : record_form_b r ≡ true → known_b r glyphs ≡ false → Refused GlyphNumber ≡ decoded_of r glyphs
+  pub unknown : record_form_b r ≡ true → known_b r glyphs ≡ false → Err GlyphNumber ≡ decoded_of r glyphs
   unfolding decoded_of
   unknown f k = rw (f, k)
 
-  pub misfactored : record_form_b r ≡ true → known_b r glyphs ≡ true → factor_b r ≡ false → Refused Factor ≡ decoded_of r glyphs
+  pub misfactored : record_form_b r ≡ true → known_b r glyphs ≡ true → factor_b r ≡ false → Err Factor ≡ decoded_of r glyphs
   unfolding decoded_of
   misfactored f k g = rw (f, k, g)
 
   pub out_of_range : record_form_b r ≡ true → known_b r glyphs ≡ true → factor_b r ≡ true → radius_b r ≡ false
-      → Refused Radius ≡ decoded_of r glyphs
+      → Err Radius ≡ decoded_of r glyphs
   unfolding decoded_of
   out_of_range f k g s = rw (f, k, g, s)
 
   pub stands_for : record_form_b r ≡ true → known_b r glyphs ≡ true → factor_b r ≡ true → radius_b r ≡ true
-      → Good (record { op = operation_of r.op; figure = figure_of r }) ≡ decoded_of r glyphs
+      → Ok (record { op = operation_of r.op; figure = figure_of r }) ≡ decoded_of r glyphs
   unfolding decoded_of
   stands_for f k g s = rw (f, k, g, s)
 
 module _ (m : Room) {d : Decoded} where
-  pub stays_refused : {w : Refusal} → d ≡ Refused w → d ≡ judged m d
+  pub stays_refused : {w : Refusal} → d ≡ Err w → d ≡ judged m d
   stays_refused e = rw e
 
-  pub stays_good : {r : Record} → d ≡ Good r → inside_b m r.figure ≡ true → Good r ≡ judged m d
+  pub stays_good : {r : Record} → d ≡ Ok r → inside_b m r.figure ≡ true → Ok r ≡ judged m d
   stays_good e i = rw (e, i)
 
-  pub falls_outside : {r : Record} → d ≡ Good r → inside_b m r.figure ≡ false → Refused Outside ≡ judged m d
+  pub falls_outside : {r : Record} → d ≡ Ok r → inside_b m r.figure ≡ false → Err Outside ≡ judged m d
   falls_outside e i = rw (e, i)

@@ -1,14 +1,14 @@
 -- 01, Drawing sheets and Numbers of refusal, and 02's M-100: what a record stands for, and 16 to 18 in their order. The plane has no part
 -- in it: 19 is a test of the figure (specs/Inside).
-use Rattle.std.specs.Prelude.{ℕ, List, Bool, cond, not, ◌&&◌, ◌||◌, eqb, ltb, leb}
+use Rattle.std.specs.Prelude.{ℕ, List, Bool, cond, not, ◌&&◌, ◌||◌, eqb, ltb, leb, Result, Ok, Err}
 use Rattle.dots.specs.Operation.{operation_of}
 use Rattle.records.specs.declared.Raw.{Raw}
 use Rattle.records.specs.declared.Point.{Point}
 use Rattle.records.specs.declared.Figure.{Figure}
 use Rattle.records.specs.declared.Figure.TheVariants.{Dot, Line, Rectangle, Glyph, Circle}
+use Rattle.records.specs.declared.Record.{Record}
+use Rattle.records.specs.declared.Refusal.{Refusal}
 use Rattle.records.specs.declared.Refusal.TheVariants.{Form, GlyphNumber, Factor, Radius}
-use Rattle.records.specs.declared.Decoded.{Decoded}
-use Rattle.records.specs.declared.Decoded.TheVariants.{Good, Refused}
 use Rattle.records.specs.Raw.{raw_at, dot_kind, line_kind, rectangle_kind, glyph_kind, circle_kind}
 
 abbrev pub point : ℕ → ℕ → Point
@@ -42,15 +42,19 @@ figure_of r =
     (cond (eqb r.kind rectangle_kind) (Rectangle (point r.x r.y) (point r.x1 r.y1))
     (cond (eqb r.kind glyph_kind) (Glyph (point r.x r.y) r.number r.factor) (Circle (point r.x r.y) r.x1))))
 
+-- what a record stands for, or why it is refused
+abbrev pub Decoded : Type 0
+Decoded = Result Record Refusal
+
 -- 16, then 17, then 18; else the figure with its operation
 unfoldable pub decoded_of : Raw → ℕ → Decoded
 decoded_of r glyphs =
     cond (record_form_b r)
     (cond (known_b r glyphs)
     (cond (factor_b r)
-    (cond (radius_b r) (Good (record { op = operation_of r.op; figure = figure_of r })) (Refused Radius)) (Refused Factor))
-    (Refused GlyphNumber))
-    (Refused Form)
+    (cond (radius_b r) (Ok (record { op = operation_of r.op; figure = figure_of r })) (Err Radius)) (Err Factor))
+    (Err GlyphNumber))
+    (Err Form)
 
 unfoldable pub decoded_at : List ℕ → ℕ → ℕ → Decoded
 decoded_at s at glyphs = decoded_of (raw_at s at) glyphs

@@ -1,14 +1,13 @@
 -- 01, Numbers of refusal, 19, "a dot outside", judged in plain numbers: a line or rectangle by its corners, a glyph by its square,
 -- a circle by its four ends. That this is the same as "some dot of the figure lies outside the plane" is a law of crate demand
 -- (proofs/InsideLaws).
-use Rattle.std.specs.Prelude.{ℕ, ◌+◌, ◌*◌, Bool, cond, ◌&&◌, ltb, leb}
+use Rattle.std.specs.Prelude.{ℕ, ◌+◌, ◌*◌, Bool, cond, ◌&&◌, ltb, leb, Ok, Err}
 use Rattle.records.specs.declared.Room.{Room}
 use Rattle.records.specs.declared.Point.{Point}
 use Rattle.records.specs.declared.Figure.{Figure}
 use Rattle.records.specs.declared.Figure.TheVariants.{Dot, Line, Rectangle, Glyph, Circle}
 use Rattle.records.specs.declared.Refusal.TheVariants.{Outside}
-use Rattle.records.specs.declared.Decoded.{Decoded}
-use Rattle.records.specs.declared.Decoded.TheVariants.{Good, Refused}
+use Rattle.records.specs.Decode.{Decoded}
 
 -- the plane has the dots below `across` and `down`
 abbrev pub point_b : Room → Point → Bool
@@ -31,5 +30,5 @@ inside_b m (Circle a r) = circle_b m a r
 
 -- 19 after 16 to 18: what was decoded, as it is judged in the plane
 abbrev pub judged : Room → Decoded → Decoded
-judged m (Good r) = cond (inside_b m r.figure) (Good r) (Refused Outside)
-judged m (Refused w) = Refused w
+judged m (Ok r) = cond (inside_b m r.figure) (Ok r) (Err Outside)
+judged m (Err w) = Err w

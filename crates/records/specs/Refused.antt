@@ -1,9 +1,8 @@
 -- 01, Numbers of refusal, rows 16 to 19, with 02's M-100: the number for each case of the decoder's answer.
-use Rattle.std.specs.Prelude.{ℕ}
+use Rattle.std.specs.Prelude.{ℕ, Ok, Err}
 use Rattle.records.specs.declared.Refusal.{Refusal}
 use Rattle.records.specs.declared.Refusal.TheVariants.{Form, GlyphNumber, Factor, Radius, Outside}
-use Rattle.records.specs.declared.Decoded.{Decoded}
-use Rattle.records.specs.declared.Decoded.TheVariants.{Good, Refused}
+use Rattle.records.specs.Decode.{Decoded}
 
 -- "16, 17, 18, 19 | record's form; glyph number; factor; a dot outside"; 02, M-100: "18 also for a radius out of range"
 abbrev pub why_number : Refusal → ℕ
@@ -15,5 +14,5 @@ why_number Outside = 19
 
 -- "Success is number 0"
 abbrev pub number_of : Decoded → ℕ
-number_of (Good r) = 0
-number_of (Refused w) = why_number w
+number_of (Ok r) = 0
+number_of (Err w) = why_number w

@@ -1,7 +1,7 @@
 // The records of a drawing sheet: their ten bytes, the figure or the refusal that they stand for, and whether it lies in the plane.
 #![tactic(auto)]
 
-ghost use Rattle.std.specs.Prelude.{◌≡◌, ◌<◌};
+ghost use Rattle.std.specs.Prelude.{◌≡◌};
 ghost use Rattle.records.specs.Raw.{byte_at, word_at, record_place, raw_at};
 ghost use Rattle.records.specs.Decode.{record_form_b, known_b, factor_b, radius_b, figure_of, decoded_of, decoded_at};
 ghost use Rattle.records.specs.Inside.{point_b, square_b, circle_b, inside_b, judged};
@@ -41,13 +41,6 @@ pub enum Refusal {
     Outside,
 }
 
-// What the ten bytes of a record stand for.
-#[derive(Clone, Copy)]
-pub enum Decoded {
-    Good(Record),
-    Refused(Refusal),
-}
-
 // The ten bytes as numbers. The last four are given both ways: as x1, y1 and as a glyph's number and factor. A circle's radius is x1.
 #[derive(Clone, Copy)]
 pub struct Raw {
@@ -61,12 +54,12 @@ pub struct Raw {
     pub factor: u8,
 }
 
-// Where a block stands in a sheet, and its records in it.
-const BLOCK_BYTES: u32 = 512;
+// A block's bytes, where its records stand in it, and a record's bytes.
+pub const BLOCK_BYTES: u32 = 512;
 
-const RECORDS_AT: u32 = 4;
+pub const RECORDS_AT: u32 = 4;
 
-const RECORD_BYTES: u32 = 10;
+pub const RECORD_BYTES: u32 = 10;
 
 // The kinds of records.
 const DOT: u8 = 1;
@@ -87,12 +80,6 @@ pub struct Room {
     pub glyphs: u16,
 }
 
-fn wide(x: u8) -> u16
-    ensures { (result ≡ x) × (result < 256) }
-{
-    x as u16
-}
-
 // The byte at a place, 0 past the end.
 pub fn byte_at(s: &[u8], at: usize) -> u8
     ensures { result ≡ byte_at s.now at }
@@ -105,7 +92,7 @@ pub fn word_at(s: &[u8], at: u32) -> u16
     ensures { result ≡ word_at s.now at }
 {
     let i = at as usize;
-    wide(byte_at(s, i)) + 256 * wide(byte_at(s, i + 1))
+    u16::from(byte_at(s, i)) + 256 * u16::from(byte_at(s, i + 1))
 }
 
 // The ten bytes of a record of a block.
@@ -161,51 +148,45 @@ fn figure_of(r: Raw) -> Figure
 {
     let a = Point { x: r.x, y: r.y };
     let b = Point { x: r.x1, y: r.y1 };
-    if r.kind == DOT {
-        return Figure::Dot(a);
-    }
-    if r.kind == LINE {
-        return Figure::Line(a, b);
-    }
-    if r.kind == RECTANGLE {
-        return Figure::Rectangle(a, b);
-    }
-    if r.kind == GLYPH {
-        return Figure::Glyph {
+    match r.kind {
+        DOT => Figure::Dot(a),
+        LINE => Figure::Line(a, b),
+        RECTANGLE => Figure::Rectangle(a, b),
+        GLYPH => Figure::Glyph {
             at: a,
             number: r.number,
             factor: r.factor,
-        };
-    }
-    Figure::Circle {
-        centre: a,
-        radius: r.x1,
+        },
+        _ => Figure::Circle {
+            centre: a,
+            radius: r.x1,
+        },
     }
 }
 
-fn decode(r: Raw, glyphs: u16) -> Decoded
+fn decode(r: Raw, glyphs: u16) -> Result<Record, Refusal>
     ensures { result ≡ decoded_of r glyphs }
 {
     if !formed(r) {
-        return Decoded::Refused(Refusal::Form);
+        return Err(Refusal::Form);
     }
     if !known(r, glyphs) {
-        return Decoded::Refused(Refusal::GlyphNumber);
+        return Err(Refusal::GlyphNumber);
     }
     if !factored(r) {
-        return Decoded::Refused(Refusal::Factor);
+        return Err(Refusal::Factor);
     }
     if !radius_right(r) {
-        return Decoded::Refused(Refusal::Radius);
+        return Err(Refusal::Radius);
     }
-    Decoded::Good(Record {
+    Ok(Record {
         op: dots::operation_of(r.op),
         figure: figure_of(r),
     })
 }
 
 // What a record of a block stands for, where there are so many glyphs.
-pub fn decode_record(s: &[u8], block: u16, index: u16, glyphs: u16) -> Decoded
+pub fn decode_record(s: &[u8], block: u16, index: u16, glyphs: u16) -> Result<Record, Refusal>
     ensures { result ≡ decoded_at s.now (record_place block index) glyphs }
 {
     decode(raw_at(s, block, index), glyphs)
@@ -241,47 +222,37 @@ pub fn inside(m: Room, f: Figure) -> bool
         Figure::Dot(a) => point_in(m, a),
         Figure::Line(a, b) => point_in(m, a) & point_in(m, b),
         Figure::Rectangle(a, b) => point_in(m, a) & point_in(m, b),
-        Figure::Glyph {
-            at,
-            number: _,
-            factor,
-        } => square_in(m, at, factor),
+        Figure::Glyph { at, factor, .. } => square_in(m, at, factor),
         Figure::Circle { centre, radius } => circle_in(m, centre, radius),
     }
 }
 
 // A figure that does not lie in the plane is refused.
-pub fn judge(m: Room, d: Decoded) -> Decoded
+pub fn judge(m: Room, d: Result<Record, Refusal>) -> Result<Record, Refusal>
     ensures { result ≡ judged m d }
 {
-    let Decoded::Good(r) = d else {
-        return d;
-    };
-    let f = r.figure;
-    if inside(m, f) {
-        return d;
-    }
-    Decoded::Refused(Refusal::Outside)
+    let r = d?;
+    if inside(m, r.figure) { Ok(r) } else { Err(Refusal::Outside) }
 }
 
-fn why_number(w: Refusal) -> u8
+// The number of a record's refusal.
+pub fn why_number(w: Refusal) -> u8
     ensures { result ≡ why_number w }
 {
     match w {
         Refusal::Form => 16,
         Refusal::GlyphNumber => 17,
-        Refusal::Factor => 18,
-        Refusal::Radius => 18,
+        Refusal::Factor | Refusal::Radius => 18,
         Refusal::Outside => 19,
     }
 }
 
 // The number of a record's refusal, 0 for a figure.
-pub fn number_of(d: Decoded) -> u8
+pub fn number_of(d: Result<Record, Refusal>) -> u8
     ensures { result ≡ number_of d }
 {
     match d {
-        Decoded::Good(_) => 0,
-        Decoded::Refused(w) => why_number(w),
+        Ok(_) => 0,
+        Err(w) => why_number(w),
     }
 }

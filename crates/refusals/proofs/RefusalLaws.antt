@@ -9,7 +9,7 @@ use lib.Dec.{eqb, leb}
 use lib.ListN.{length}
 use borrow.Author.Tests.{leb-true, eqb-true}
 use Rattle.records.specs.declared.Room.{Room}
-use Rattle.records.specs.declared.Decoded.{Decoded}
+use Rattle.records.specs.Decode.{Decoded}
 use Rattle.records.specs.Refused.{number_of}
 use Rattle.records.proofs.TestLaws.{and_both}
 use Rattle.blocks.specs.declared.Answer.{Answer}
@@ -29,11 +29,6 @@ module _ (s : List ℕ) (m : Room) (k : ℕ) where
   pub number_is : {d : Decoded} {x : ℕ} → used_b s k ≡ true → d ≡ slot_decoded s m k → x ≡ number_of d → x ≡ slot_refusal s m k
   unfolding slot_refusal
   number_is u e q = rw (u, ← e, q)
-
--- the first slot that is refused
-pub records_stop : (s : List ℕ) (m : Room) (n k : ℕ) {x : ℕ} → k < 50 * n → x ≡ slot_refusal s m k → (x ≡ 0 → ⊥)
-    → answer x (k / 50) (k % 50) ≡ first_from (slot_answer s m) (50 * n - k) k
-records_stop s m n k h p z = first_stop (slot_answer s m) (50 * n) k h (ap (λ (y : ℕ). answer y (k / 50) (k % 50)) p) z
 
 -- ---- the plane, the table and the length are right where nothing is refused
 pub record Framed (p h g l : ℕ) : Type 0 where
@@ -77,6 +72,23 @@ framed p h g l e z =
       whole = eqb-true (l % 512) 0 v.0;
       blocks = omega (arith, leb-true (l / 512) 16 u.1, eqb-true (l % 512) 0 v.0);
     }
+
+-- ---- the frame: the plane, then the table, then the length
+module _ (p h g l : ℕ) where
+  pub way_plane : {a : Answer} → a ≡ plane_refusal p h → (a.number ≡ 0 → ⊥) → a ≡ frame_refusal p h g l
+  unfolding frame_refusal
+  way_plane e z = e ∙ sym (or_first (plane_refusal p h) _ (rw e at z))
+
+  module _ (e : answer 0 0 0 ≡ plane_refusal p h) where
+    way_next : or_else (table_refusal g) (length_refusal l) ≡ frame_refusal p h g l
+    unfolding frame_refusal
+    way_next = sym (or_next (plane_refusal p h) _ (sym (ap (λ (x : Answer). x.number) e)))
+
+    pub way_table : {a : Answer} → a ≡ table_refusal g → (a.number ≡ 0 → ⊥) → a ≡ frame_refusal p h g l
+    way_table f z = f ∙ sym (or_first (table_refusal g) _ (rw f at z)) ∙ way_next
+
+    pub way_length : answer 0 0 0 ≡ table_refusal g → {a : Answer} → a ≡ length_refusal l → a ≡ frame_refusal p h g l
+    way_length f k = k ∙ sym (or_next (table_refusal g) _ (sym (ap (λ (x : Answer). x.number) f))) ∙ way_next
 
 -- ---- the ways out
 module _ (s : List ℕ) (p h : ℕ) (t : List ℕ) where

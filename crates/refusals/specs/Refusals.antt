@@ -1,9 +1,8 @@
 -- 01, Numbers of refusal, 11 to 19 in table order. The records of a sheet are its slots in order: slot k is record k % 50 of block k / 50.
 use Rattle.std.specs.Prelude.{ℕ, ◌*◌, ◌/◌, ◌%◌, List, Bool, cond, ◌&&◌, eqb, ltb, leb, length}
 use Rattle.records.specs.declared.Room.{Room}
-use Rattle.records.specs.declared.Decoded.{Decoded}
 use Rattle.records.specs.Raw.{record_place}
-use Rattle.records.specs.Decode.{decoded_at}
+use Rattle.records.specs.Decode.{Decoded, decoded_at}
 use Rattle.records.specs.Inside.{judged}
 use Rattle.records.specs.Refused.{number_of}
 use Rattle.blocks.specs.declared.Answer.{Answer}

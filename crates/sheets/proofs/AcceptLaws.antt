@@ -4,6 +4,7 @@
 use mathlib.Core.Path.{◌≡◌, refl, sym, ap, ◌∙◌}
 use mathlib.Core.Bool.{Bool, true, false, cond, ◌&&◌}
 use mathlib.Core.List.{List, ◌++◌}
+use Rattle.std.specs.Prelude.{Ok, Err}
 use Prim.Native.Nat.{ℕ, zero, suc, ◌+◌, ◌*◌, ◌/◌, ◌%◌, ◌<◌, ◌≤◌}
 use native.Mathlib.Omega.{arith}
 use lib.Dec.{eqb, leb}
@@ -12,10 +13,8 @@ use borrow.Author.Tests.{eqb-true, eq-eqb, lt-ltb, le-ltb, ltb-true, leb-true, l
 use Rattle.records.specs.declared.Room.{Room}
 use Rattle.records.specs.declared.Refusal.{Refusal}
 use Rattle.records.specs.declared.Refusal.TheVariants.{Form, GlyphNumber, Factor, Radius, Outside}
-use Rattle.records.specs.declared.Decoded.{Decoded}
-use Rattle.records.specs.declared.Decoded.TheVariants.{Good, Refused}
 use Rattle.records.specs.Raw.{record_place, raw_at}
-use Rattle.records.specs.Decode.{decoded_at}
+use Rattle.records.specs.Decode.{Decoded, decoded_at}
 use Rattle.records.specs.Refused.{why_number, number_of}
 use Rattle.records.proofs.TestLaws.{and_both}
 use Rattle.blocks.specs.declared.Answer.{Answer}
@@ -167,8 +166,8 @@ why_below Radius = omega arith
 why_below Outside = omega arith
 
 number_below : (d : Decoded) → number_of d < 20
-number_below (Good r) = omega arith
-number_below (Refused w) = why_below w
+number_below (Ok r) = omega arith
+number_below (Err w) = why_below w
 
 module _ (s : List ℕ) (p h : ℕ) (t : List ℕ) where
   pub refusal_below : (sheet_refusal s p h t).number < 20

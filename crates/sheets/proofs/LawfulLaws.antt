@@ -8,6 +8,7 @@ use Prim.Native.Nat.{ℕ, ◌+◌, ◌-◌, ◌*◌, ◌/◌, ◌%◌, ◌<◌, 
 use native.Mathlib.Omega.{arith}
 use lib.Dec.{eqb}
 use borrow.Author.Tests.{eqb-true, eqb-false, eq-eqb, leb-true, le-leb}
+use Rattle.std.specs.Prelude.{Ok, Err}
 use Rattle.geometry.specs.Plane.{Shape}
 use Rattle.geometry.proofs.OutsideLaws.{Outside, Judges, judges_only, outside_only, dot_judged, line_judged, border_judged, square_judged}
 use Rattle.circles.proofs.OutsideLaws.{circle_judged}
@@ -17,10 +18,8 @@ use Rattle.records.specs.declared.Record.{Record}
 use Rattle.records.specs.declared.Figure.{Figure}
 use Rattle.records.specs.declared.Refusal.TheVariants.{Form, GlyphNumber, Factor, Radius}
 use Rattle.records.specs.declared.Refusal.TheVariants as refusals
-use Rattle.records.specs.declared.Decoded.{Decoded}
-use Rattle.records.specs.declared.Decoded.TheVariants.{Good, Refused}
 use Rattle.records.specs.Raw.{record_place, dot_kind, line_kind, rectangle_kind, glyph_kind, circle_kind}
-use Rattle.records.specs.Decode.{record_form_b, known_b, factor_b, radius_b, figure_of, decoded_of}
+use Rattle.records.specs.Decode.{Decoded, record_form_b, known_b, factor_b, radius_b, figure_of, decoded_of}
 use Rattle.records.specs.Inside.{inside_b, judged}
 use Rattle.records.specs.Refused.{number_of}
 use Rattle.records.proofs.TestLaws.{and_both}
@@ -123,11 +122,11 @@ module _ (p h glyphs : ℕ) where
 
   -- the five tests of a record in their order: past 16 to 18 the fifth decides
   abbrev decoded_by : Bool → Bool → Bool → Bool → Record → Decoded
-  decoded_by a b c d q = cond a (cond b (cond c (cond d (Good q) (Refused Radius)) (Refused Factor)) (Refused GlyphNumber)) (Refused Form)
+  decoded_by a b c d q = cond a (cond b (cond c (cond d (Ok q) (Err Radius)) (Err Factor)) (Err GlyphNumber)) (Err Form)
 
   tests : (a b c d : Bool) (q : Record) (x : ℕ) → number_of (judged m (decoded_by a b c d q)) ≡ x
       → (x ≡ 16 → ⊥) → (x ≡ 17 → ⊥) → (x ≡ 18 → ⊥)
-      → (a ≡ true) × (b ≡ true) × (c ≡ true) × (d ≡ true) × (number_of (judged m (Good q)) ≡ x)
+      → (a ≡ true) × (b ≡ true) × (c ≡ true) × (d ≡ true) × (number_of (judged m (Ok q)) ≡ x)
   tests true true true true q x e f g k = (refl, refl, refl, refl, e)
   tests true true true false q x e f g k = absurd (k (sym e))
   tests true true false d q x e f g k = absurd (k (sym e))
@@ -141,11 +140,11 @@ module _ (p h glyphs : ℕ) where
   passed true false c d q e = absurd (omega arith)
   passed false b c d q e = absurd (omega arith)
 
-  test_in : (d : Bool) (q : Record) → number_of (cond d (Good q) (Refused refusals.Outside)) ≡ 0 → d ≡ true
+  test_in : (d : Bool) (q : Record) → number_of (cond d (Ok q) (Err refusals.Outside)) ≡ 0 → d ≡ true
   test_in true q e = refl
   test_in false q e = absurd (omega arith)
 
-  test_out : (d : Bool) (q : Record) → number_of (cond d (Good q) (Refused refusals.Outside)) ≡ 19 → d ≡ false
+  test_out : (d : Bool) (q : Record) → number_of (cond d (Ok q) (Err refusals.Outside)) ≡ 19 → d ≡ false
   test_out true q e = absurd (omega arith)
   test_out false q e = refl
 

@@ -3,6 +3,7 @@
 use mathlib.Core.Path.{◌≡◌, refl}
 use mathlib.Core.Bool.{Bool, true, false, cond}
 use mathlib.Core.List.{List, [], ◌∷◌, ◌++◌, append_assoc, append-nil}
+use Rattle.std.specs.Prelude.{Ok, Err}
 use Prim.Native.Nat.{ℕ, zero, suc, ◌+◌, ◌-◌, ◌*◌, ◌<◌, ◌≤◌}
 use native.Mathlib.Omega.{arith}
 use lib.ListN.{length, length-append}
@@ -10,9 +11,8 @@ use Rattle.records.specs.declared.Record.{Record}
 use Rattle.records.specs.declared.Room.{Room}
 use Rattle.records.specs.declared.Refusal.{Refusal}
 use Rattle.records.specs.declared.Figure.{Figure}
+use Rattle.records.specs.Decode.{Decoded}
 use Rattle.records.specs.declared.Figure.TheVariants.{Dot, Line, Rectangle, Glyph, Circle}
-use Rattle.records.specs.declared.Decoded.{Decoded}
-use Rattle.records.specs.declared.Decoded.TheVariants.{Good, Refused}
 use Rattle.entries.specs.Entries.{placed, plain, figure_size, size_of, entries_of}
 use Rattle.entries.proofs.PutLaws.{entries_size, placed_append}
 use Rattle.refusals.specs.Refusals.{used_b, slot_decoded}
@@ -25,11 +25,11 @@ module _ (s : List ℕ) (m : Room) (k : ℕ) where
   unfolding slot_figures
   none u = rw u
 
-  pub bad : {d : Decoded} {w : Refusal} → used_b s k ≡ true → d ≡ slot_decoded s m k → d ≡ Refused w → slot_figures s m k ≡ []
+  pub bad : {d : Decoded} {w : Refusal} → used_b s k ≡ true → d ≡ slot_decoded s m k → d ≡ Err w → slot_figures s m k ≡ []
   unfolding slot_figures
   bad u e g = rw (u, ← e, g)
 
-  pub good : {d : Decoded} {r : Record} → used_b s k ≡ true → d ≡ slot_decoded s m k → d ≡ Good r → slot_figures s m k ≡ r ∷ []
+  pub good : {d : Decoded} {r : Record} → used_b s k ≡ true → d ≡ slot_decoded s m k → d ≡ Ok r → slot_figures s m k ≡ r ∷ []
   unfolding slot_figures
   good u e g = rw (u, ← e, g)
 
@@ -51,8 +51,8 @@ size_small (Circle c r) = omega arith
 
 small : (b : Bool) (d : Decoded) → sized (cond b (figures_in d) []) ≤ 161
 unfolding sized size_of
-small true (Good r) = omega (arith, size_small (plain r.figure))
-small true (Refused w) = omega arith
+small true (Ok r) = omega (arith, size_small (plain r.figure))
+small true (Err w) = omega arith
 small false d = omega arith
 
 -- a slot takes at most 161 entries
@@ -62,8 +62,8 @@ slot_small s m k e = rw e (small (used_b s k) (slot_decoded s m k))
 
 -- .. and has at most one figure
 one : (b : Bool) (d : Decoded) → length (cond b (figures_in d) []) ≤ 1
-one true (Good r) = omega arith
-one true (Refused w) = omega arith
+one true (Ok r) = omega arith
+one true (Err w) = omega arith
 one false d = omega arith
 
 pub slot_one : (s : List ℕ) (m : Room) (k : ℕ) {x : ℕ} → x ≡ length (slot_figures s m k) → x ≤ 1

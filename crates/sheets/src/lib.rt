@@ -2,32 +2,39 @@
 #![tactic(auto)]
 
 ghost use Rattle.std.specs.Prelude.{◌≡◌, ◌+◌};
+ghost use Rattle.blocks.specs.Refused.{answered};
 ghost use Rattle.entries.specs.Entries.{placed};
-ghost use Rattle.sheets.specs.Slots.{slot_figures, figures, sized, translated, translation};
+ghost use Rattle.sheets.specs.Slots.{slot_figures, listed, figures, sized, translated, translation};
 ghost use Rattle.sheets.specs.Sheet.{outcome, translate_def};
 
-use blocks::Answer;
-use records::{Decoded, Room};
+use blocks::Refused;
+use records::{Record, Room};
 use refusals::{BLOCK_BYTES, RECORDS};
 
 // The command PITCH as an entry.
 const PITCH: u16 = 0x147;
 
-// The number of refusal of an output too short.
-const SHORT: u8 = 20;
+// A slot's figure, where the slot is used and its record is no refusal.
+pub fn slot_figure(s: &[u8], k: u16, m: Room) -> Option<Record>
+    ensures { listed result ≡ slot_figures s.now m k }
+{
+    if !refusals::used(s, k) {
+        return None;
+    }
+    let Ok(r) = refusals::slot_decoded(s, k, m) else {
+        return None;
+    };
+    Some(r)
+}
 
 // How many entries a slot takes.
 fn slot_size(s: &[u8], k: u16, m: Room) -> u32
     ensures { result ≡ sized (slot_figures s.now m k) }
 {
-    if !refusals::used(s, k) {
-        return 0;
+    match slot_figure(s, k, m) {
+        Some(r) => entries::size_of(r),
+        None => 0,
     }
-    let d = refusals::slot_decoded(s, k, m);
-    let Decoded::Good(r) = d else {
-        return 0;
-    };
-    entries::size_of(r)
 }
 
 // How many entries PITCH P and the figures take.
@@ -35,10 +42,8 @@ fn entries_needed(s: &[u8], n: u8, m: Room) -> u32
     ensures { result ≡ 2 + sized (figures s.now m n) }
 {
     let mut need: u32 = 2;
-    let mut k: u16 = 0;
-    while k < RECORDS * n as u16 {
+    for k in 0..RECORDS * n as u16 {
         need += slot_size(s, k, m);
-        k += 1;
     }
     need
 }
@@ -48,11 +53,7 @@ fn put_slot(out: &mut [u16], at: u32, s: &[u8], k: u16, m: Room, t: &[u8], p: u8
     ensures { (result ≡ sized (slot_figures s.now m k))
         × (out.new ≡ placed out.old at (translated t.now p (slot_figures s.now m k))) }
 {
-    if !refusals::used(s, k) {
-        return 0;
-    }
-    let d = refusals::slot_decoded(s, k, m);
-    let Decoded::Good(r) = d else {
+    let Some(r) = slot_figure(s, k, m) else {
         return 0;
     };
     entries::put_record(out, at, t, p, r);
@@ -65,36 +66,23 @@ fn write_out(out: &mut [u16], s: &[u8], n: u8, m: Room, t: &[u8], p: u8)
 {
     entries::put(out, 0, &[PITCH, p as u16]);
     let mut at: u32 = 2;
-    let mut k: u16 = 0;
-    while k < RECORDS * n as u16 {
+    for k in 0..RECORDS * n as u16 {
         at += put_slot(out, at, s, k, m, t, p);
-        k += 1;
     }
 }
 
-// The sheet s becomes entries at the output's start, for a plane of P words by H lines and the glyph table t.
-pub fn translate(s: &[u8], p: u32, h: u32, t: &[u8], out: &mut [u16]) -> Answer
-    ensures { outcome result out.new ≡ translate_def s.now p h t.now out.old }
+// The sheet s becomes entries at the output's start, for a plane of P words by H lines and the glyph table t; how many they are.
+pub fn translate(s: &[u8], p: u32, h: u32, t: &[u8], out: &mut [u16]) -> Result<u32, Refused>
+    ensures { outcome (answered result) out.new ≡ translate_def s.now p h t.now out.old }
 {
-    let refusal = refusals::sheet_refusal(s, p, h, t);
-    if refusal.number != 0 {
-        return refusal;
-    }
+    refusals::sheet_refusal(s, p, h, t)?;
     let words = p as u8;
     let n = (s.len() / BLOCK_BYTES) as u8;
     let m = refusals::room_of(words, h as u16, t.len() as u16);
     let need = entries_needed(s, n, m);
     if out.len() < need as usize {
-        return Answer {
-            number: SHORT,
-            first: need,
-            second: 0,
-        };
+        return Err(Refused::Short(need));
     }
     write_out(out, s, n, m, t, words);
-    Answer {
-        number: 0,
-        first: need,
-        second: 0,
-    }
+    Ok(need)
 }

@@ -14,7 +14,6 @@ use Rattle.costs.proofs.counted.Goals as goal
 pub loop-k-init : goal.loop-k-init
 loop-k-init c =
     record {
-      within = omega arith;
       few = omega arith;
       small = omega arith;
       less = omega arith;
@@ -35,7 +34,6 @@ loop-k-preserved c =
     let inv = c.loop-k.invariant in
     let on = c.loop-k-test.true in
     record {
-      within = omega arith;
       few = omega (arith, slot_one _ _ _ (ap (λ (y : Share). y.figures) x));
       small = omega (arith, slot_small _ _ _ (ap (λ (y : Share). y.entries) x));
       less = omega arith;

@@ -9,7 +9,6 @@ use Rattle.costs.proofs.counted.Given as goal
 abbrev pub invariant-loop-k : goal.invariant-loop-k
 invariant-loop-k l =
     record {
-      within : l.k ≤ 50 * l.n;
       few : l.figures ≤ l.k;
       small : l.entries ≤ 2 + 161 * l.k;
       less : l.dots ≤ 4294967295 * l.k;
@@ -17,6 +16,3 @@ invariant-loop-k l =
       need : 2 + sized (figures l.s l.m l.n) ≡ l.entries + sized (figures_from l.s l.m (50 * l.n - l.k) l.k);
       dots : figures_dots (figures l.s l.m l.n) ≡ l.dots + figures_dots (figures_from l.s l.m (50 * l.n - l.k) l.k);
     }
-
-abbrev pub decreases-loop-k : goal.decreases-loop-k
-decreases-loop-k l = 50 * l.n - l.k

@@ -4,12 +4,12 @@ use Rattle.costs.proofs.figure_dots.Goals as goal
 
 pub returns-in-Line : goal.returns-in-Line
 returns-in-Line c =
-    line_by_law c.in-Line.is c.apart.ensures c.apart-in-Line.ensures
+    line_by_law c.in-Line.is c.abs_diff.ensures c.abs_diff-in-Line.ensures
     c.line_dots.ensures
 
 pub returns-in-Rectangle : goal.returns-in-Rectangle
 returns-in-Rectangle c =
-    rectangle_by c.in-Rectangle.is c.apart-in-Rectangle.ensures c.apart-in-Rectangle-2.ensures
+    rectangle_by c.in-Rectangle.is c.abs_diff-in-Rectangle.ensures c.abs_diff-in-Rectangle-2.ensures
     c.border_dots.ensures
 
 pub returns-in-Glyph : goal.returns-in-Glyph

@@ -24,7 +24,7 @@ returns c =
     rw (
       dc,
       c.third.ensures,
-      c.less-d.ensures,
+      c.saturating_sub-d.ensures,
       c.word_of-e.ensures,
       c.end_y.ensures,
       c.end_x-x.ensures,

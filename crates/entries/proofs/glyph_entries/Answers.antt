@@ -14,7 +14,8 @@ returns c = rw (
   c.row-2.ensures,
   c.row.ensures,
   c.third.ensures,
-  c.less-2.ensures,
+  c.from.ensures,
+  c.saturating_sub-2.ensures,
   c.word_of-e.ensures,
-  c.less.ensures,
+  c.saturating_sub.ensures,
 )

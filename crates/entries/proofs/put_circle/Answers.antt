@@ -7,7 +7,7 @@ use Rattle.entries.proofs.CircleLaws.{dc_is, arcs_start, arcs_go_on, arcs_end}
 use Rattle.entries.proofs.put_circle.Goals as goal
 
 pub loop-dir-init : goal.loop-dir-init
-loop-dir-init c = (search rules, refl, arcs_start _ _ _ _ _)
+loop-dir-init c = (refl, arcs_start _ _ _ _ _)
 
 pub arc_entries-requires : goal.arc_entries-requires
 arc_entries-requires c =
@@ -18,14 +18,13 @@ arc_entries-requires c =
 
 pub loop-dir-preserved : goal.loop-dir-preserved
 loop-dir-preserved c = let l = c.loop-dir in (
-  search rules,
-  c.put_from.auto.out ∙ l.invariant.1,
-  l.invariant.2 ∙ arcs_go_on _ _ _ _ _ _ c.loop-dir-test.true
+  c.put_from.auto.out ∙ l.invariant.0,
+  l.invariant.1 ∙ arcs_go_on _ _ _ _ _ _ c.loop-dir-test.true
       (c.put_from.ensures ∙ ap (placed _ _) c.arc_entries.ensures),
 )
 
 pub shape_of-out : goal.shape_of-out
-shape_of-out c = c.loop-dir.invariant.1
+shape_of-out c = c.loop-dir.invariant.0
 
 pub returns : goal.returns
-returns c = arcs_end _ _ _ _ _ _ c.loop-dir-test.false ∙ sym c.loop-dir.invariant.2
+returns c = arcs_end _ _ _ _ _ _ c.loop-dir-test.false ∙ sym c.loop-dir.invariant.1

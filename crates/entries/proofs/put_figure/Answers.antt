@@ -18,8 +18,8 @@ pub returns-in-Rectangle : goal.returns-in-Rectangle
 returns-in-Rectangle c =
     put_by _ _ _ _ c.in-Rectangle.is
     (c.rectangle_entries.ensures
-    ∙ ap₂ (rectangle_entries _ _) c.apart.ensures
-    c.apart-in-Rectangle.ensures) c.put_from-in-Rectangle.ensures
+    ∙ ap₂ (rectangle_entries _ _) c.abs_diff.ensures
+    c.abs_diff-in-Rectangle.ensures) c.put_from-in-Rectangle.ensures
 
 pub returns-in-Glyph : goal.returns-in-Glyph
 returns-in-Glyph c =

@@ -1,5 +1,5 @@
 -- `put_from` gives `placed`: what is still to be placed, from where the loop stands, makes the same list at each turn.
-use Prim.Native.Nat.{◌+◌, ◌-◌, ◌≤◌}
+use Prim.Native.Nat.{◌+◌}
 use mathlib.Core.Path.{◌≡◌}
 use lib.ListN.{length, drop}
 use Rattle.entries.specs.Entries.{placed}
@@ -7,7 +7,4 @@ use Rattle.entries.proofs.put_from.Given as goal
 
 abbrev pub invariant-loop-i : goal.invariant-loop-i
 invariant-loop-i l =
-    (l.i ≤ length l.e) × (length l.out ≡ length l.initial.out) × (placed l.initial.out l.at l.e ≡ placed l.out (l.at + l.i) (drop l.i l.e))
-
-abbrev pub decreases-loop-i : goal.decreases-loop-i
-decreases-loop-i l = length l.e - l.i
+    (length l.out ≡ length l.initial.out) × (placed l.initial.out l.at l.e ≡ placed l.out (l.at + l.i) (drop l.i l.e))

@@ -1,37 +1,25 @@
--- `figure_of` gives `figure_of`: the same tests of the kind in the same order.
-use borrow.Author.Tests.{eq-eqb, ne_eqb}
+-- `figure_of` gives `figure_of`: the same kinds in the same order.
+use Rattle.std.proofs.Common.{ne_eqb}
 use Rattle.records.specs.Decode.{figure_of}
 use Rattle.records.proofs.figure_of.Goals as goal
 
-pub returns-then-r-eq-DOT : goal.returns-then-r-eq-DOT
+pub returns-in-1 : goal.returns-in-1
 unfolding figure_of
-returns-then-r-eq-DOT c = rw (eq-eqb _ 1 c.if-r-eq-DOT.true)
+returns-in-1 c = rw c.in-1.is
 
-pub returns-then-r-eq-LINE : goal.returns-then-r-eq-LINE
+pub returns-in-2 : goal.returns-in-2
 unfolding figure_of
-returns-then-r-eq-LINE c = rw (ne_eqb _ 1 c.if-r-eq-DOT.false, eq-eqb _ 2 c.if-r-eq-LINE.true)
+returns-in-2 c = rw c.in-2.is
 
-pub returns-then-r-eq-RECTANGLE : goal.returns-then-r-eq-RECTANGLE
+pub returns-in-3 : goal.returns-in-3
 unfolding figure_of
-returns-then-r-eq-RECTANGLE c =
-    rw (ne_eqb _ 1 c.if-r-eq-DOT.false, ne_eqb _ 2 c.if-r-eq-LINE.false, eq-eqb _ 3 c.if-r-eq-RECTANGLE.true)
+returns-in-3 c = rw c.in-3.is
 
-pub returns-then-r-eq-GLYPH : goal.returns-then-r-eq-GLYPH
+pub returns-in-4 : goal.returns-in-4
 unfolding figure_of
-returns-then-r-eq-GLYPH c =
-    rw (
-      ne_eqb _ 1 c.if-r-eq-DOT.false,
-      ne_eqb _ 2 c.if-r-eq-LINE.false,
-      ne_eqb _ 3 c.if-r-eq-RECTANGLE.false,
-      eq-eqb _ 4 c.if-r-eq-GLYPH.true,
-    )
+returns-in-4 c = rw c.in-4.is
 
-pub returns : goal.returns
+pub returns-in_default : goal.returns-in_default
 unfolding figure_of
-returns c =
-    rw (
-      ne_eqb _ 1 c.if-r-eq-DOT.false,
-      ne_eqb _ 2 c.if-r-eq-LINE.false,
-      ne_eqb _ 3 c.if-r-eq-RECTANGLE.false,
-      ne_eqb _ 4 c.if-r-eq-GLYPH.false,
-    )
+returns-in_default c = let n = c.in_default.in_default-own.rest in
+    rw (ne_eqb _ _ n.0.0.0.1, ne_eqb _ _ n.0.0.1, ne_eqb _ _ n.0.1, ne_eqb _ _ n.1)

@@ -7,7 +7,7 @@ use Rattle.sheets.proofs.SlotLaws.{slot_small, sized_append, figures_start, coun
 use Rattle.sheets.proofs.entries_needed.Goals as goal
 
 pub loop-k-init : goal.loop-k-init
-loop-k-init c = record { within = omega arith; small = omega arith; total = ap (λ f. 2 + sized f) (figures_start _ _ _ 0) }
+loop-k-init c = record { small = omega arith; total = ap (λ f. 2 + sized f) (figures_start _ _ _ 0) }
 
 pub overflow_add-need : goal.overflow_add-need
 overflow_add-need c = omega (arith, slot_small _ _ _ c.slot_size-need.ensures)
@@ -15,7 +15,6 @@ overflow_add-need c = omega (arith, slot_small _ _ _ c.slot_size-need.ensures)
 pub loop-k-preserved : goal.loop-k-preserved
 loop-k-preserved c =
     record {
-      within = omega arith;
       small = omega (arith, slot_small _ _ _ c.slot_size-need.ensures);
       total = c.loop-k.invariant.total ∙ count_goes_on _ _ _ _ sized sized_append _ c.loop-k-test.true
           c.slot_size-need.ensures;

@@ -7,10 +7,6 @@ use Rattle.sheets.proofs.entries_needed.Given as goal
 abbrev pub invariant-loop-k : goal.invariant-loop-k
 invariant-loop-k l =
     record {
-      within : l.k ≤ 50 * l.n;
       small : l.need ≤ 2 + 161 * l.k;
       total : 2 + sized (figures l.s l.m l.n) ≡ l.need + sized (figures_from l.s l.m (50 * l.n - l.k) l.k);
     }
-
-abbrev pub decreases-loop-k : goal.decreases-loop-k
-decreases-loop-k l = 50 * l.n - l.k

@@ -5,7 +5,7 @@ use Rattle.sheets.proofs.SlotLaws.{slot_small, write_starts, write_goes_on, writ
 use Rattle.sheets.proofs.write_out.Goals as goal
 
 pub loop-k-init : goal.loop-k-init
-loop-k-init c = record { within = omega arith; small = omega arith; long = refl; same = write_starts _ _ _ 0 _ _ _ }
+loop-k-init c = record { small = omega arith; long = refl; same = write_starts _ _ _ 0 _ _ _ }
 
 pub overflow_add-at : goal.overflow_add-at
 overflow_add-at c = omega (arith, slot_small _ _ _ c.put_slot-at.ensures.0)
@@ -14,7 +14,6 @@ pub loop-k-preserved : goal.loop-k-preserved
 loop-k-preserved c = let l = c.loop-k in
     let w = c.put_slot-at.ensures in
     record {
-      within = omega arith;
       small = omega (arith, slot_small _ _ _ w.0);
       long = c.put_slot-at.auto.out ∙ l.invariant.long;
       same = l.invariant.same ∙ write_goes_on _ _ _ _ _ _ _ _ c.loop-k-test.true w;

@@ -9,12 +9,8 @@ use Rattle.sheets.proofs.write_out.Given as goal
 abbrev pub invariant-loop-k : goal.invariant-loop-k
 invariant-loop-k l =
     record {
-      within : l.k ≤ 50 * l.n;
       small : l.at ≤ 2 + 161 * l.k;
       long : length l.out ≡ length l.initial.out;
       same : placed l.initial.out 2 (translated l.t l.p (figures l.s l.m l.n))
           ≡ placed l.out l.at (translated l.t l.p (figures_from l.s l.m (50 * l.n - l.k) l.k));
     }
-
-abbrev pub decreases-loop-k : goal.decreases-loop-k
-decreases-loop-k l = 50 * l.n - l.k

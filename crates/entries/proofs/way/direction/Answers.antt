@@ -4,15 +4,15 @@ use Rattle.entries.proofs.SlopeLaws.{dir_first}
 use Rattle.entries.proofs.way.direction.Goals as goal
 
 pub returns-then-right-down : goal.returns-then-right-down
-returns-then-right-down c = dir_first _ _ c.apart-x.ensures
-    c.apart-y.ensures c.if-right-down.true
+returns-then-right-down c = dir_first _ _ c.abs_diff-dx.ensures
+    c.abs_diff-dy.ensures c.if-right-down.true
 
 pub returns-then-right-down-2 : goal.returns-then-right-down-2
 unfolding dir_of
 returns-then-right-down-2 c =
     rw (
-      ← c.apart-x.ensures,
-      ← c.apart-y.ensures,
+      ← c.abs_diff-dx.ensures,
+      ← c.abs_diff-dy.ensures,
       c.if-right-down.false,
       c.if-right-down-2.true,
     )
@@ -21,8 +21,8 @@ pub returns-then-right-up : goal.returns-then-right-up
 unfolding dir_of
 returns-then-right-up c =
     rw (
-      ← c.apart-x.ensures,
-      ← c.apart-y.ensures,
+      ← c.abs_diff-dx.ensures,
+      ← c.abs_diff-dy.ensures,
       c.if-right-down.false,
       c.if-right-down-2.false,
       c.if-right-up.true,
@@ -32,8 +32,8 @@ pub returns-then-right-up-2 : goal.returns-then-right-up-2
 unfolding dir_of
 returns-then-right-up-2 c =
     rw (
-      ← c.apart-x.ensures,
-      ← c.apart-y.ensures,
+      ← c.abs_diff-dx.ensures,
+      ← c.abs_diff-dy.ensures,
       c.if-right-down.false,
       c.if-right-down-2.false,
       c.if-right-up.false,
@@ -44,8 +44,8 @@ pub returns-then-left-up : goal.returns-then-left-up
 unfolding dir_of
 returns-then-left-up c =
     rw (
-      ← c.apart-x.ensures,
-      ← c.apart-y.ensures,
+      ← c.abs_diff-dx.ensures,
+      ← c.abs_diff-dy.ensures,
       c.if-right-down.false,
       c.if-right-down-2.false,
       c.if-right-up.false,
@@ -57,8 +57,8 @@ pub returns-then-left-up-2 : goal.returns-then-left-up-2
 unfolding dir_of
 returns-then-left-up-2 c =
     rw (
-      ← c.apart-x.ensures,
-      ← c.apart-y.ensures,
+      ← c.abs_diff-dx.ensures,
+      ← c.abs_diff-dy.ensures,
       c.if-right-down.false,
       c.if-right-down-2.false,
       c.if-right-up.false,
@@ -71,8 +71,8 @@ pub returns-then-left-down : goal.returns-then-left-down
 unfolding dir_of
 returns-then-left-down c =
     rw (
-      ← c.apart-x.ensures,
-      ← c.apart-y.ensures,
+      ← c.abs_diff-dx.ensures,
+      ← c.abs_diff-dy.ensures,
       c.if-right-down.false,
       c.if-right-down-2.false,
       c.if-right-up.false,
@@ -86,8 +86,8 @@ pub returns : goal.returns
 unfolding dir_of
 returns c =
     rw (
-      ← c.apart-x.ensures,
-      ← c.apart-y.ensures,
+      ← c.abs_diff-dx.ensures,
+      ← c.abs_diff-dy.ensures,
       c.if-right-down.false,
       c.if-right-down-2.false,
       c.if-right-up.false,

@@ -5,9 +5,9 @@ use Rattle.entries.proofs.way.slope_of.Goals as goal
 pub returns : goal.returns
 unfolding slope_of
 returns c = rw (
-  c.smaller.ensures,
-  c.larger.ensures,
+  c.min.ensures,
+  c.max.ensures,
   c.direction.ensures,
-  c.apart-y.ensures,
-  c.apart-x.ensures,
+  c.abs_diff-y.ensures,
+  c.abs_diff-x.ensures,
 )
