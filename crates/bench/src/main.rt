@@ -45,24 +45,21 @@ fn laid(a: Laid, out: &mut [u8]) -> Desk {
 
 // What a line asks to see, of the words that the memory has.
 fn shown(r: Registers, d: Desk, s: Show, mem: &[u16], out: &mut [u8]) -> Desk {
-    let n = buffers::words_used(d.words, mem);
-    with_held(d, controls::shown(r, s, &mem[..n], out, d.held))
+    with_held(d, controls::shown(r, s, buffers::part(d.words, mem), out, d.held))
 }
 
 // What a line of that length asks for.
 fn order(line: &[u8], length: usize) -> Order
     ensures { result ≡ asked_for line.now length }
 {
-    let n = buffers::bytes_used(length, line);
-    orders::order_of(script::read_line(&line[..n]))
+    orders::order_of(script::read_line(buffers::part(length, line)))
 }
 
 // What stands behind its letter and the space.
 fn behind(line: &[u8], length: usize) -> &[u8]
     ensures { result.now ≡ behind_of line.now length }
 {
-    let n = buffers::bytes_used(length, line);
-    let all = &line[..n];
+    let all = buffers::part(length, line);
     if all.len() < 2 {
         return all;
     }

@@ -1,38 +1,29 @@
--- What a loop over words knows of those that it has not reached.
-use Prim.Native.Nat.{ℕ, zero, suc, ◌+◌, ◌/◌, ◌%◌, ◌<◌, ◌≤◌}
+-- The part of a buffer that is in use, words that are zero, and what a loop over words knows of those that it has not reached.
+use Prim.Native.Nat.{ℕ, ◌+◌, ◌/◌, ◌%◌, ◌<◌, ◌≤◌, min}
 use mathlib.Core.Path.{◌≡◌, refl, ap}
 use mathlib.Core.List.{List, [], ◌∷◌}
-use lib.ListN.{length, get_or, drop, set, drop_of_length-le}
+use lib.ListN.{length, get_or, drop, replicate, drop_of_length-le}
 use lib.Seq.{drop-cons}
 use native.Mathlib.Numerals.{add-one}
 use native.Mathlib.Omega.{arith}
+use Rattle.std.proofs.Math.Nat.{min-eq_left, min-eq_right}
+use Rattle.std.proofs.lemmas.Bool.{cases_lt}
+use Rattle.std.proofs.Common.{inl, inr}
+use borrow.Author.Tests.{le-leb, lt-leb}
+use Rattle.buffers.specs.Used.{used_of}
 use Rattle.buffers.specs.Words.{cleared, mixed, digest_from}
 
--- the words from place i on are zero, those before it as they are
-unfoldable pub cleared_from : ℕ → List ℕ → List ℕ
-cleared_from zero l = cleared l
-cleared_from (suc i) [] = []
-cleared_from (suc i) (w ∷ l) = w ∷ cleared_from i l
+pub used_is_min : {A : Type 0} (n : ℕ) (xs : List A) → min n (length xs) ≡ used_of n xs
+unfolding used_of
+used_is_min n xs = elim (cases_lt (length xs) n) [
+  | inl h ↦ rw (lt-leb n (length xs) h) (min-eq_right (omega arith))
+  | inr h ↦ rw (le-leb n (length xs) h) (min-eq_left h)
+]
 
-pub clear_starts : (l : List ℕ) → cleared l ≡ cleared_from 0 l
-unfolding cleared_from
-clear_starts l = refl
-
-one_cleared : (l : List ℕ) (i : ℕ) → i < length l → cleared_from i l ≡ cleared_from (suc i) (set l i 0)
-unfolding cleared cleared_from
-one_cleared [] i h = absurd (omega arith)
-one_cleared (w ∷ l) zero h = refl
-one_cleared (w ∷ l) (suc i) h = ap (λ (x : List ℕ). w ∷ x) (one_cleared l i (omega arith))
-
-pub clear_goes_on : (l : List ℕ) (i : ℕ) → i < length l → cleared_from i l ≡ cleared_from (i + 1) (set l i 0)
-clear_goes_on l i h = rw add-one (one_cleared l i h)
-
-pub clear_ends : (l : List ℕ) (i : ℕ) → length l ≤ i → cleared_from i l ≡ l
-unfolding cleared cleared_from
-clear_ends [] zero h = refl
-clear_ends [] (suc i) h = refl
-clear_ends (w ∷ l) zero h = absurd (omega arith)
-clear_ends (w ∷ l) (suc i) h = ap (λ (x : List ℕ). w ∷ x) (clear_ends l i (omega arith))
+pub all_zeros : (l : List ℕ) → replicate (length l) 0 ≡ cleared l
+unfolding cleared
+all_zeros [] = refl
+all_zeros (w ∷ l) = ap (λ (x : List ℕ). 0 ∷ x) (all_zeros l)
 
 module _ (s : List ℕ) (i : ℕ) (h : ℕ) where
   pub digest_goes_on : {a b : ℕ} → i < length s → a ≡ mixed h (get_or s i 0 % 256) → b ≡ mixed a (get_or s i 0 / 256)

@@ -7,8 +7,7 @@ use crate::desk::Reply;
 
 // What is held is written out: whether all of it was taken.
 pub fn flush(out: &[u8], held: usize) -> bool {
-    let n = buffers::bytes_used(held, out);
-    io::write_all(1, &out[..n])
+    io::write_all(1, buffers::part(held, out))
 }
 
 // One character more; a full buffer is written out first.

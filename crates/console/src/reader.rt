@@ -46,7 +46,7 @@ pub fn past(r: Reader) -> Reader
 fn take_line(input: &[u8], r: Reader, line: &mut [u8]) -> Reader
     ensures { taking result line.new ≡ taken input.now r line.old }
 {
-    let filled = buffers::bytes_used(r.filled, input);
+    let filled = buffers::used(r.filled, input);
     let mut at = r.at;
     let mut length = r.length;
     while at < filled {

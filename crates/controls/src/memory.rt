@@ -30,7 +30,7 @@ pub struct Worked {
 fn clear_first(mem: &mut [u16], words: usize)
     ensures { mem.new ≡ cleared_first words mem.old }
 {
-    let n = buffers::words_used(words, mem);
+    let n = buffers::used(words, mem);
     buffers::clear(&mut mem[..n]);
 }
 
@@ -81,7 +81,7 @@ fn word(words: usize, a: u64, v: u16, mem: &mut [u16]) -> Reply
 fn run_within(r: Registers, mem: &mut [u16], words: usize, budget: u32) -> Ran
     ensures { ranOutcome result mem.new ≡ run_within r mem.old words budget }
 {
-    let n = buffers::words_used(words, mem);
+    let n = buffers::used(words, mem);
     units::run(r, &mut mem[..n], budget)
 }
 

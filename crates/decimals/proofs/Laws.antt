@@ -1,35 +1,49 @@
 -- What a loop over a text's characters knows of those still to be read.
-use Prim.Native.Nat.{ℕ, ◌+◌, ◌*◌, ◌<◌, ◌≤◌}
+use Prim.Native.Nat.{ℕ, ◌+◌, ◌*◌, ◌<◌, ◌≤◌, ◌^◌}
 use mathlib.Core.Path.{◌≡◌, sym, ◌∙◌}
 use mathlib.Core.List.{List}
 use lib.ListN.{length, get_or, drop, drop_of_length-le}
 use lib.Seq.{drop-cons}
 use native.Mathlib.Numerals.{add-one}
+use native.Mathlib.Omega.{arith}
 use borrow.Author.Tests.{eq-eqb, ne_eqb, lt-ltb, le-ltb}
-use Rattle.decimals.specs.declared.Number.TheVariants.{Bad, Is}
+use Rattle.std.proofs.Common.{None, Some}
+use Rattle.std.specs.Char.{digit_value}
+use Rattle.std.proofs.lemmas.Grind.{common_steps}
 use Rattle.decimals.specs.Decimal.{ten_of, decimal_from, decimal_of}
 
-module _ (s : List ℕ) where
-  pub decimal_starts : (length s ≡ 0 → ⊥) → decimal_of s ≡ decimal_from 0 (drop 0 s)
-  unfolding decimal_of
-  decimal_starts h = rw (ne_eqb (length s) 0 h)
+-- std's digits below 10
+no_digit : (c : ℕ) → (digit_value c < 10 → ⊥) → ten_of c ≡ 10
+unfolding ten_of
+no_digit c h = grind (arith, common_steps)
 
-module _ (s : List ℕ) (i n : ℕ) where
-  pub decimal_fails : {d : ℕ} → i < length s → d ≡ ten_of (get_or s i 0) → d ≡ 10 → decimal_from n (drop i s) ≡ Bad
+is_digit : (c : ℕ) → digit_value c < 10 → digit_value c ≡ ten_of c
+unfolding ten_of
+is_digit c h = grind (arith, common_steps)
+
+module _ (s : List ℕ) (i n : ℕ) (h : i < length s) {c : ℕ} (e : c ≡ get_or s i 0) where
+  pub decimal_fails : (digit_value c < 10 → ⊥) → decimal_from n (drop i s) ≡ None
   unfolding decimal_from
-  decimal_fails h e f = rw (drop-cons s i 0 h, eq-eqb (ten_of (get_or s i 0)) 10 (sym e ∙ f))
+  decimal_fails f = let t : ten_of (get_or s i 0) ≡ 10 = rw (← e) (no_digit c f) in
+      rw (drop-cons s i 0 h, eq-eqb (ten_of (get_or s i 0)) 10 t)
 
-  module _ {d : ℕ} (h : i < length s) (e : d ≡ ten_of (get_or s i 0)) (f : d ≡ 10 → ⊥) where
-    pub decimal_passes : 4294967295 < 10 * n + d → decimal_from n (drop i s) ≡ Bad
+  module _ {d : ℕ} (f : digit_value c < 10) (g : d ≡ digit_value c) where
+    same : d ≡ ten_of (get_or s i 0)
+    same = g ∙ is_digit c f ∙ rw e
+
+    below : ten_of (get_or s i 0) ≡ 10 → ⊥
+    below z = let k : d ≡ 10 = same ∙ z in omega arith
+
+    pub decimal_passes : 4294967295 < 10 * n + d → decimal_from n (drop i s) ≡ None
     unfolding decimal_from
-    decimal_passes g =
-        rw (drop-cons s i 0 h, ne_eqb (ten_of (get_or s i 0)) 10 (λ x. f (e ∙ x)), ← e, lt-ltb 4294967295 (10 * n + d) g)
+    decimal_passes k =
+        rw (drop-cons s i 0 h, ne_eqb (ten_of (get_or s i 0)) 10 below, ← same, lt-ltb 4294967295 (10 * n + d) k)
 
     pub decimal_goes_on : 10 * n + d ≤ 4294967295 → decimal_from n (drop i s) ≡ decimal_from (10 * n + d) (drop (i + 1) s)
     unfolding decimal_from
-    decimal_goes_on g =
-        rw (add-one, drop-cons s i 0 h, ne_eqb (ten_of (get_or s i 0)) 10 (λ x. f (e ∙ x)), ← e, le-ltb 4294967295 (10 * n + d) g)
+    decimal_goes_on k =
+        rw (add-one, drop-cons s i 0 h, ne_eqb (ten_of (get_or s i 0)) 10 below, ← same, le-ltb 4294967295 (10 * n + d) k)
 
-  pub decimal_ends : length s ≤ i → decimal_from n (drop i s) ≡ Is n
-  unfolding decimal_from
-  decimal_ends h = rw (drop_of_length-le s h)
+pub decimal_ends : (s : List ℕ) (i n : ℕ) → length s ≤ i → decimal_from n (drop i s) ≡ Some n
+unfolding decimal_from
+decimal_ends s i n h = rw (drop_of_length-le s h)

@@ -25,8 +25,8 @@ use Rattle.easel.specs.Drawing.{translated_in, played, played_within, drawing_to
 rest : (xs : List ℕ) (a : ℕ) → take (length xs - a) (drop a xs) ≡ drop a xs
 rest xs a = take_all (length xs - a) (drop a xs) (omega (arith, length-drop a xs))
 
-pub sheet_part : (xs : List ℕ) (n : ℕ) {k : ℕ} → 4096 ≤ length xs → k ≡ used_of n (take (length xs - 4096) (drop 4096 xs))
-    → take k (take (length xs - 4096) (drop 4096 xs)) ≡ sheet_of xs n
+pub sheet_part : (xs : List ℕ) (n : ℕ) {s : List ℕ} → 4096 ≤ length xs → s ≡ part_of n (take (length xs - 4096) (drop 4096 xs))
+    → s ≡ sheet_of xs n
 unfolding sheet_of
 sheet_part xs n h e = rw (e, rest xs 4096, le-ltb (length xs) 4096 h)
 
@@ -44,11 +44,11 @@ pub cost_in : (p h : ℕ) {s s' t t' : List ℕ} {c : Cost} → s ≡ s' → t �
 cost_in p h sheet table done = done ∙ rw (sheet, table)
 
 -- a part of the entries played over a part of the memory
-pub played_within_law : (r : Registers) (entries mem : List ℕ) (n words : ℕ) {k m : ℕ} {q : Sent} {o : List ℕ} → k ≡ used_of n entries
-    → m ≡ used_of words mem → outcome q o ≡ played (state r (take m mem)) (take k entries)
+pub played_within_law : (r : Registers) (entries mem : List ℕ) (n words : ℕ) {s : List ℕ} {m : ℕ} {q : Sent} {o : List ℕ} → s ≡ part_of n entries
+    → m ≡ used_of words mem → outcome q o ≡ played (state r (take m mem)) s
     → outcome q (o ++ drop m mem) ≡ played_within r (part_of n entries) mem words
 unfolding played_within
-played_within_law r entries mem n words {k} {m} many used done =
+played_within_law r entries mem n words {s} {m} many used done =
     ap (λ (x : Outcome). outcome x.sent (x.mem ++ drop m mem)) done ∙ rw (many, used)
 
 -- ---- the drawing of a sheet

@@ -126,8 +126,7 @@ pub fn paper_done(d: Desk, p: Paper, hex: &[u8], papers: &mut [u8]) -> Laid
 pub fn table_of(papers: &[u8], n: usize) -> &[u8]
     ensures { result.now ≡ table_of papers.now n }
 {
-    let k = buffers::bytes_used(n, papers);
-    &papers[..k]
+    buffers::part(n, papers)
 }
 
 // The sheet's n bytes.
@@ -137,7 +136,5 @@ pub fn sheet_of(papers: &[u8], n: usize) -> &[u8]
     if papers.len() < TABLE {
         return papers;
     }
-    let rest = &papers[TABLE..];
-    let k = buffers::bytes_used(n, rest);
-    &rest[..k]
+    buffers::part(n, &papers[TABLE..])
 }

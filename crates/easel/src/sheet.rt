@@ -16,7 +16,7 @@ use registers::Registers;
 fn translated(d: Desk, papers: &[u8], entries: &mut [u16], room: usize) -> blocks::Answer
     ensures { translatedTo result entries.new ≡ translated_in d papers.now entries.old room }
 {
-    let n = buffers::words_used(room, entries);
+    let n = buffers::used(room, entries);
     blocks::told(sheets::translate(
         sheet_of(papers, d.sheet),
         d.across,
@@ -33,8 +33,7 @@ fn translation_told(a: blocks::Answer, entries: &[u16], out: &mut [u8], held: us
     if a.number != 0 {
         return output::character(out, n, b'\n');
     }
-    let count = buffers::words_used(a.first as usize, entries);
-    let m = output::words(out, n, &entries[..count], 4);
+    let m = output::words(out, n, buffers::part(a.first as usize, entries), 4);
     output::character(out, m, b'\n')
 }
 
@@ -90,9 +89,8 @@ fn send_within(r: Registers, entries: &[u16], n: u32, mem: &mut [u16], most: usi
     requires { length entries.now ≤ 128802 }
     ensures { outcome result mem.new ≡ played_within r (part_of n entries.now) mem.old most }
 {
-    let count = buffers::words_used(n as usize, entries);
-    let words = buffers::words_used(most, mem);
-    send_all(r, &entries[..count], &mut mem[..words])
+    let words = buffers::used(most, mem);
+    send_all(r, buffers::part(n as usize, entries), &mut mem[..words])
 }
 
 // The answer to `X`.

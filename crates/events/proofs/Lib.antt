@@ -1,3 +1,4 @@
+pub mod ByteLaws
 pub mod HeldLaws
 pub mod Laws
 pub mod ListingLaws

@@ -1,8 +1,6 @@
 -- A line of a record of the bus, in the form that `listing` writes: "C 47" and "P 28" a byte for a port, "U 5000" units to be done,
 -- "F" a picture to be sent.
-use Rattle.std.specs.Prelude.{ℕ, ◌+◌, ◌-◌, ◌*◌, zero, suc, List, [], ◌∷◌, Bool, true, cond, ltb, eqb, length, get_or, take, drop}
-use Rattle.decimals.specs.declared.Number.{Number}
-use Rattle.decimals.specs.declared.Number.TheVariants as number
+use Rattle.std.specs.Prelude.{ℕ, ◌+◌, ◌-◌, ◌*◌, zero, suc, List, [], ◌∷◌, Bool, true, cond, ltb, eqb, length, get_or, take, drop, Option, None, Some}
 use Rattle.decimals.specs.Decimal.{decimal_of}
 use Rattle.replaying.specs.Replay.{units_mark, idle_mark}
 use Rattle.events.specs.declared.Event.{Event}
@@ -41,9 +39,9 @@ unfoldable pub byte_of : ℕ → List ℕ → Event
 byte_of mark f = cond (eqb (length f) 2) (entry_of mark (digit_of (get_or f 0 0)) (digit_of (get_or f 1 0))) Unknown
 
 -- a decimal number of 32 bits
-unfoldable pub units_of : Number → Event
-units_of number.Bad = Unknown
-units_of (number.Is n) = Units n
+unfoldable pub units_of : Option ℕ → Event
+units_of None = Unknown
+units_of (Some n) = Units n
 
 -- what follows a letter and a space: a byte after C, "commands are the byte + 256", and after P; units after U
 unfoldable pub field_of : ℕ → List ℕ → Event

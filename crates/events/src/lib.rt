@@ -3,10 +3,8 @@
 
 ghost use Rattle.std.specs.Prelude.{◌≡◌, ◌≤◌, length};
 ghost use Rattle.events.specs.Event.{
-  digit_of,
   blank_b,
   span_of,
-  entry_of,
   byte_of,
   units_of,
   field_of,
@@ -16,8 +14,6 @@ ghost use Rattle.events.specs.Event.{
   after_entry,
   asked_by,
 };
-
-use decimals::Number;
 
 // Nothing (an empty line, a comment); an entry for a port, the byte or for the command port 256 more; units to be done; a picture to
 // be sent; or none of these.
@@ -35,95 +31,56 @@ const NO_UNITS: u64 = 4294967296;
 
 const UNTIL_IDLE: u64 = 8589934592;
 
-// A digit's value; 16 where the character is no digit.
-fn digit_of(c: u8) -> u8
-    ensures { result ≡ digit_of c }
-{
-    if c < 48 {
-        return 16;
-    }
-    if c < 58 {
-        return c - 48;
-    }
-    if c < 65 {
-        return 16;
-    }
-    if c < 71 {
-        return c - 55;
-    }
-    if c < 97 {
-        return 16;
-    }
-    if c < 103 {
-        return c - 87;
-    }
-    16
-}
-
 // A space, a tab or a carriage return.
+#[tactic(auto, unfolding(crate::specs::Event::blank_b))]
 fn blank(c: u8) -> bool
     ensures { result ≡ blank_b c }
 {
-    if c == 32 {
-        return true;
-    }
-    if c == 9 {
-        return true;
-    }
-    c == 13
+    matches!(c, b' ' | b'\t' | b'\r')
 }
 
 // How long a text is without the blanks at its end.
 fn span_of(s: &[u8]) -> usize
     ensures { (result ≤ length s.now) × (result ≡ span_of (length s.now) s.now) }
 {
-    let mut n = s.len();
-    while 0 < n {
-        let last = n - 1;
-        if blank(s[last]) {
-            n = last;
-        } else {
-            return n;
+    for i in (0..s.len()).rev() {
+        if !blank(s[i]) {
+            return i + 1;
         }
     }
     0
 }
 
-// The byte of two digits, with the port's mark.
-fn entry_of(mark: u16, high: u8, low: u8) -> Event
-    requires { mark ≤ 256 }
-    ensures { result ≡ entry_of mark high low }
-{
-    if 15 < high {
-        return Event::Unknown;
-    }
-    if 15 < low {
-        return Event::Unknown;
-    }
-    Event::Entry(mark + (16 * high + low) as u16)
-}
-
-// Two digits and no more.
+// The byte of two digits and no more, with the port's mark.
 fn byte_of(mark: u16, f: &[u8]) -> Event
     requires { mark ≤ 256 }
     ensures { result ≡ byte_of mark f.now }
 {
-    if f.len() != 2 {
+    let [high, low] = f else {
         return Event::Unknown;
-    }
-    entry_of(mark, digit_of(f[0]), digit_of(f[1]))
+    };
+    let Some(high) = char::from(*high).to_digit(16) else {
+        return Event::Unknown;
+    };
+    let Some(low) = char::from(*low).to_digit(16) else {
+        return Event::Unknown;
+    };
+    Event::Entry(mark + (16 * high + low) as u16)
 }
 
-fn units_of(n: Number) -> Event
+// A number of units.
+#[tactic(auto, unfolding(crate::specs::Event::units_of))]
+fn units_of(n: Option<u32>) -> Event
     ensures { result ≡ units_of n }
 {
     match n {
-        Number::Bad => Event::Unknown,
-        Number::Is(u) => Event::Units(u),
+        Some(u) => Event::Units(u),
+        None => Event::Unknown,
     }
 }
 
 // What follows a letter and a space.
+#[tactic(auto, unfolding(crate::specs::Event::field_of))]
 fn field_of(letter: u8, f: &[u8]) -> Event
     ensures { result ≡ field_of letter f.now }
 {
@@ -136,38 +93,35 @@ fn field_of(letter: u8, f: &[u8]) -> Event
 }
 
 // A letter alone.
+#[tactic(auto, unfolding(crate::specs::Event::bare_of))]
 fn bare_of(letter: u8) -> Event
     ensures { result ≡ bare_of letter }
 {
-    if letter == b'F' {
-        Event::Picture
-    } else {
-        Event::Unknown
+    match letter {
+        b'F' => Event::Picture,
+        _ => Event::Unknown,
     }
 }
 
 // What a text with no blank at its end says.
+#[tactic(auto, unfolding(crate::specs::Event::said_by))]
 fn said_by(t: &[u8]) -> Event
     ensures { result ≡ said_by t.now }
 {
-    if t.len() == 0 {
-        return Event::Nothing;
+    match t {
+        [] => Event::Nothing,
+        [letter] => bare_of(*letter),
+        [letter, b' ', field @ ..] => field_of(*letter, field),
+        _ => Event::Unknown,
     }
-    let letter = t[0];
-    if t.len() == 1 {
-        return bare_of(letter);
-    }
-    if t[1] != 32 {
-        return Event::Unknown;
-    }
-    field_of(letter, &t[2..])
 }
 
 // What a line says.
+#[tactic(auto, unfolding(crate::specs::Event::event_of))]
 pub fn event_of(s: &[u8]) -> Event
     ensures { result ≡ event_of s.now }
 {
-    if s.len() == 0 {
+    if s.is_empty() {
         return Event::Nothing;
     }
     if s[0] == b'#' {
@@ -176,11 +130,11 @@ pub fn event_of(s: &[u8]) -> Event
     if 80 < s.len() {
         return Event::Unknown;
     }
-    let n = span_of(s);
-    said_by(&s[..n])
+    said_by(&s[..span_of(s)])
 }
 
 // The event that follows an entry.
+#[tactic(auto, unfolding(crate::specs::Event::after_entry))]
 fn after(by_units: bool) -> u64
     ensures { result ≡ after_entry by_units }
 {
@@ -188,14 +142,13 @@ fn after(by_units: bool) -> u64
 }
 
 // What a line asks of the controller, in a record that has come to its first U or not: two events, as crate replaying has them.
+#[tactic(auto, unfolding(crate::specs::Event::asked_by))]
 pub fn asked_of(e: Event, by_units: bool) -> [u64; 2]
     ensures { result ≡ asked_by e by_units }
 {
     match e {
-        Event::Entry(b) => [b as u64, after(by_units)],
-        Event::Units(n) => [NO_UNITS + n as u64, NO_UNITS],
-        Event::Nothing => [NO_UNITS, NO_UNITS],
-        Event::Picture => [NO_UNITS, NO_UNITS],
-        Event::Unknown => [NO_UNITS, NO_UNITS],
+        Event::Entry(b) => [u64::from(b), after(by_units)],
+        Event::Units(n) => [NO_UNITS + u64::from(n), NO_UNITS],
+        Event::Nothing | Event::Picture | Event::Unknown => [NO_UNITS, NO_UNITS],
     }
 }

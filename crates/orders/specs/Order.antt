@@ -1,6 +1,6 @@
 -- What a line of the bench's script asks for: the letters of docs/BENCH.md with the ranges given there. "A line with a field missing or one
 -- too many, out of the range given here, .. is answered `?`": such a line asks for nothing that is known.
-use Rattle.std.specs.Prelude.{ℕ, cond, ltb, eqb}
+use Rattle.std.specs.Prelude.{ℕ, cond, ltb, eqb, Option, None, Some}
 use Rattle.dots.specs.declared.Wiring.TheVariants.{Folded, Open}
 use Rattle.script.specs.declared.Line.{Line}
 use Rattle.script.specs.declared.Line.TheVariants as line
@@ -94,9 +94,9 @@ bytes_order letter =
     Unknown)
 
 -- what a line asks for
-unfoldable pub order_of : Line → Order
-order_of line.Bad = Unknown
-order_of (line.Bare letter) = bare_order letter
-order_of (line.One letter n) = one_order letter n
-order_of (line.Two letter a b) = two_order letter a b
-order_of (line.Bytes letter) = bytes_order letter
+unfoldable pub order_of : Option Line → Order
+order_of None = Unknown
+order_of (Some (line.Bare letter)) = bare_order letter
+order_of (Some (line.One letter n)) = one_order letter n
+order_of (Some (line.Two letter a b)) = two_order letter a b
+order_of (Some (line.Bytes letter)) = bytes_order letter

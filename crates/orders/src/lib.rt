@@ -75,13 +75,13 @@ pub enum Order {
 }
 
 // A letter and a byte.
+#[tactic(auto, unfolding(crate::specs::Order::byte_order))]
 fn byte_order(letter: u8, n: u32) -> Order
     ensures { result ≡ byte_order letter n }
 {
-    if 255 < n {
+    let Ok(b) = u8::try_from(n) else {
         return Order::Unknown;
-    }
-    let b = n as u8;
+    };
     match letter {
         b'C' => Order::OfPort(Port::Command(b)),
         b'P' => Order::OfPort(Port::Parameter(b)),
@@ -90,13 +90,13 @@ fn byte_order(letter: u8, n: u32) -> Order
 }
 
 // A letter and a number of 32 bits.
+#[tactic(auto, unfolding(crate::specs::Order::wide_order))]
 fn wide_order(letter: u8, n: u64) -> Order
     ensures { result ≡ wide_order letter n }
 {
-    if 4294967295 < n {
+    let Ok(m) = u32::try_from(n) else {
         return Order::Unknown;
-    }
-    let m = n as u32;
+    };
     match letter {
         b'L' => Order::OfPort(Port::Pen(m)),
         b'U' => Order::OfMemory(Memory::Run(m)),
@@ -107,29 +107,32 @@ fn wide_order(letter: u8, n: u64) -> Order
 }
 
 // `W a v`
+#[tactic(auto, unfolding(crate::specs::Order::word_order))]
 fn word_order(a: u64, v: u64) -> Order
     ensures { result ≡ word_order a v }
 {
-    if 65535 < v {
+    let Ok(word) = u16::try_from(v) else {
         return Order::Unknown;
-    }
-    Order::OfMemory(Memory::Word(a, v as u16))
+    };
+    Order::OfMemory(Memory::Word(a, word))
 }
 
 // `Q p h`
+#[tactic(auto, unfolding(crate::specs::Order::size_order))]
 fn size_order(p: u64, h: u64) -> Order
     ensures { result ≡ size_order p h }
 {
-    if 4294967295 < p {
+    let Ok(across) = u32::try_from(p) else {
         return Order::Unknown;
-    }
-    if 4294967295 < h {
+    };
+    let Ok(down) = u32::try_from(h) else {
         return Order::Unknown;
-    }
-    Order::OfPaper(Paper::Size(p as u32, h as u32))
+    };
+    Order::OfPaper(Paper::Size(across, down))
 }
 
 // `F request`: a field that a request added to the register set. Its number is decimal as it is printed, and was read as hexadecimal.
+#[tactic(auto, unfolding(crate::specs::Order::field_order))]
 fn field_order(request: u64) -> Order
     ensures { result ≡ field_order request }
 {
@@ -141,16 +144,18 @@ fn field_order(request: u64) -> Order
 }
 
 // `J 103 v`
+#[tactic(auto, unfolding(crate::specs::Order::count_order))]
 fn count_order(v: u64) -> Order
     ensures { result ≡ count_order v }
 {
-    if 4294967295 < v {
-        return Order::Unknown;
+    match u32::try_from(v) {
+        Ok(_) => Order::Count(v),
+        Err(_) => Order::Unknown,
     }
-    Order::Count(v)
 }
 
 // `J 108 v`
+#[tactic(auto, unfolding(crate::specs::Order::wiring_order))]
 fn wiring_order(v: u64) -> Order
     ensures { result ≡ wiring_order v }
 {
@@ -162,6 +167,7 @@ fn wiring_order(v: u64) -> Order
 }
 
 // `J request v`: such a field becomes v.
+#[tactic(auto, unfolding(crate::specs::Order::put_order))]
 fn put_order(request: u64, v: u64) -> Order
     ensures { result ≡ put_order request v }
 {
@@ -173,6 +179,7 @@ fn put_order(request: u64, v: u64) -> Order
 }
 
 // A letter alone.
+#[tactic(auto, unfolding(crate::specs::Order::bare_order))]
 fn bare_order(letter: u8) -> Order
     ensures { result ≡ bare_order letter }
 {
@@ -189,6 +196,7 @@ fn bare_order(letter: u8) -> Order
 }
 
 // A letter and a number.
+#[tactic(auto, unfolding(crate::specs::Order::one_order))]
 fn one_order(letter: u8, n: u64) -> Order
     ensures { result ≡ one_order letter n }
 {
@@ -200,6 +208,7 @@ fn one_order(letter: u8, n: u64) -> Order
 }
 
 // A letter and two numbers.
+#[tactic(auto, unfolding(crate::specs::Order::two_order))]
 fn two_order(letter: u8, a: u64, b: u64) -> Order
     ensures { result ≡ two_order letter a b }
 {
@@ -213,6 +222,7 @@ fn two_order(letter: u8, a: u64, b: u64) -> Order
 }
 
 // A letter and bytes.
+#[tactic(auto, unfolding(crate::specs::Order::bytes_order))]
 fn bytes_order(letter: u8) -> Order
     ensures { result ≡ bytes_order letter }
 {
@@ -223,15 +233,16 @@ fn bytes_order(letter: u8) -> Order
     }
 }
 
-// What a line asks for.
-pub fn order_of(l: Line) -> Order
+// What a line asks for; one that says nothing asks for nothing that is known.
+#[tactic(auto, unfolding(crate::specs::Order::order_of))]
+pub fn order_of(l: Option<Line>) -> Order
     ensures { result ≡ order_of l }
 {
     match l {
-        Line::Bad => Order::Unknown,
-        Line::Bare(letter) => bare_order(letter),
-        Line::One(letter, n) => one_order(letter, n),
-        Line::Two(letter, a, b) => two_order(letter, a, b),
-        Line::Bytes(letter) => bytes_order(letter),
+        None => Order::Unknown,
+        Some(Line::Bare(letter)) => bare_order(letter),
+        Some(Line::One(letter, n)) => one_order(letter, n),
+        Some(Line::Two(letter, a, b)) => two_order(letter, a, b),
+        Some(Line::Bytes(letter)) => bytes_order(letter),
     }
 }

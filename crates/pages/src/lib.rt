@@ -22,13 +22,12 @@ fn write_header(p: u32, h: u32) -> bool {
 }
 
 fn make(mem: &[u16], p: u32, size: usize, room: &mut [u8]) {
-    let n = buffers::bytes_used(size, room);
+    let n = buffers::used(size, room);
     bitmap::fill_image(mem, p, &mut room[..n]);
 }
 
 fn put(size: usize, room: &[u8]) -> bool {
-    let n = buffers::bytes_used(size, room);
-    io::write_all(1, &room[..n])
+    io::write_all(1, buffers::part(size, room))
 }
 
 // The picture at the memory's start, made in the room that is lent and written in one piece: whether all of it was taken. The room has

@@ -84,7 +84,7 @@ fn draw(sheet: &[u8], p: u32, h: u32, glyphs: &[u8], wiring: Wiring, mem: &mut [
 fn picture_of(p: u32, h: u32, glyphs: &[u8], words: usize, wiring: Wiring, mem: &mut [u16]) {
     let mut sheet = [0u8; 8193];
     let n = io::read_full(0, &mut sheet);
-    let w = buffers::words_used(words, mem);
+    let w = buffers::used(words, mem);
     draw(&sheet[..n], p, h, glyphs, wiring, &mut mem[..w]);
 }
 
@@ -108,8 +108,7 @@ fn picture_in(rt: &(impl Env + Files), p: u32, h: u32, words: u32, wiring: Wirin
     let Table::Bytes(read) = read_glyphs(rt, 1, &mut glyphs) else {
         return no_glyphs();
     };
-    let g = buffers::bytes_used(read, &glyphs);
-    picture_with(p, h, &glyphs[..g], words, wiring);
+    picture_with(p, h, buffers::part(read, &glyphs), words, wiring);
 }
 
 fn wrong_number() {
@@ -136,10 +135,9 @@ fn cost_in(rt: &(impl Env + Files), p: u32, h: u32) {
     let Table::Bytes(read) = read_glyphs(rt, 2, &mut glyphs) else {
         return no_glyphs();
     };
-    let g = buffers::bytes_used(read, &glyphs);
     let mut sheet = [0u8; 8193];
     let n = io::read_full(0, &mut sheet);
-    tell(&sheet[..n], p, h, &glyphs[..g]);
+    tell(&sheet[..n], p, h, buffers::part(read, &glyphs));
 }
 
 // `picture --cost`

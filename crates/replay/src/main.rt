@@ -40,12 +40,10 @@ pub struct Told {
 
 // A whole line is read.
 fn read(t: Tally, r: Reader, line: &[u8]) -> Told {
-    let n = buffers::bytes_used(r.length, line);
-    let e = events::event_of(&line[..n]);
     Told {
         reader: console::reader::past(r),
         tally: log::line(t),
-        event: e,
+        event: events::event_of(buffers::part(r.length, line)),
     }
 }
 
@@ -186,7 +184,7 @@ fn replay_in(rt: &HostRuntime, plane: Plane, mem: &mut [u16]) {
 
 // The memory has so many words.
 fn replay_at(rt: &HostRuntime, plane: Plane, words: u32, mem: &mut [u16]) {
-    let w = buffers::words_used(words as usize, mem);
+    let w = buffers::used(words as usize, mem);
     replay_in(rt, plane, &mut mem[..w]);
 }
 

@@ -1,3 +1,4 @@
 pub mod BytesLaws
+pub mod DigitLaws
 pub mod Laws
 pub mod LineLaws

@@ -1,7 +1,5 @@
 -- A field of a script's line: uppercase hexadecimal digits, as a number and as bytes.
-use Rattle.std.specs.Prelude.{ℕ, ◌+◌, ◌-◌, ◌*◌, ◌%◌, List, [], ◌∷◌, Bool, true, false, cond, ltb, leb, eqb, length, set}
-use Rattle.script.specs.declared.Number.{Number}
-use Rattle.script.specs.declared.Number.TheVariants.{Bad, Is}
+use Rattle.std.specs.Prelude.{ℕ, ◌+◌, ◌-◌, ◌*◌, ◌%◌, List, [], ◌∷◌, Bool, true, false, cond, ltb, leb, eqb, length, set, Option, None, Some}
 
 -- the value of 0 to 9 and A to F, in ASCII; 16 for any other character
 unfoldable pub digit_of : ℕ → ℕ
@@ -12,13 +10,13 @@ unfoldable pub more : ℕ → ℕ → ℕ
 more n d = cond (leb 268435456 n) 4294967296 (16 * n + d)
 
 -- the digits after a number already read
-unfoldable pub number_from : ℕ → List ℕ → Number
-number_from n [] = Is n
-number_from n (b ∷ l) = cond (eqb (digit_of b) 16) Bad (number_from (more n (digit_of b)) l)
+unfoldable pub number_from : ℕ → List ℕ → Option ℕ
+number_from n [] = Some n
+number_from n (b ∷ l) = cond (eqb (digit_of b) 16) None (number_from (more n (digit_of b)) l)
 
 -- one digit or more
-unfoldable pub number_of : List ℕ → Number
-number_of s = cond (eqb (length s) 0) Bad (number_from 0 s)
+unfoldable pub number_of : List ℕ → Option ℕ
+number_of s = cond (eqb (length s) 0) None (number_from 0 s)
 
 unfoldable pub digits_b : List ℕ → Bool
 digits_b [] = true

@@ -1,11 +1,9 @@
 -- 02, M-108: "A register-set field says folded or open wiring."
-use Rattle.std.specs.Prelude.{ℕ, List, [], ◌∷◌, Bool, true, false, cond, ◌&&◌, eqb}
+use Rattle.std.specs.Prelude.{ℕ, List, [], ◌∷◌, Bool, true, false, cond, ◌&&◌, eqb, Option, None, Some}
 use Rattle.dots.specs.declared.Wiring.{Wiring}
 use Rattle.dots.specs.declared.Wiring.TheVariants.{Folded, Open}
 use Rattle.registers.specs.declared.Registers.{Registers}
 use Rattle.registers.specs.Put.{put_board}
-use Rattle.wirings.specs.declared.Named.{Named}
-use Rattle.wirings.specs.declared.Named.TheVariants.{Bad, Is}
 
 -- the same characters
 unfoldable pub same_b : List ℕ → List ℕ → Bool
@@ -22,8 +20,8 @@ abbrev pub folded_word : List ℕ
 folded_word = 102 ∷ 111 ∷ 108 ∷ 100 ∷ 101 ∷ 100 ∷ []
 
 -- the wiring that a word names
-unfoldable pub wiring_named : List ℕ → Named
-wiring_named s = cond (same_b s open_word) (Is Open) (cond (same_b s folded_word) (Is Folded) Bad)
+unfoldable pub wiring_named : List ℕ → Option Wiring
+wiring_named s = cond (same_b s open_word) (Some Open) (cond (same_b s folded_word) (Some Folded) None)
 
 -- the register set of a board that is wired so
 abbrev pub wired_as : Wiring → Registers → Registers

@@ -8,30 +8,23 @@ use dots::Wiring;
 use registers::{Board, Registers};
 use std::rt::Env;
 
-// The wiring that a word names, or that it names none.
-#[derive(Clone, Copy)]
-pub enum Named {
-    Bad,
-    Is(Wiring),
-}
-
-// The wiring that a word names: `open` or `folded`.
-pub fn wiring_named(text: &[u8]) -> Named
+// The wiring that a word names, if it names one: `open` or `folded`.
+pub fn wiring_named(text: &[u8]) -> Option<Wiring>
     ensures { result ≡ wiring_named text.now }
 {
     if check::same(text, b"open") {
-        return Named::Is(Wiring::Open);
+        return Some(Wiring::Open);
     }
     if check::same(text, b"folded") {
-        return Named::Is(Wiring::Folded);
+        return Some(Wiring::Folded);
     }
-    Named::Bad
+    None
 }
 
 // Argument i as a wiring: folded where it is not given.
-pub fn wiring_at(rt: &impl Env, i: usize) -> Named {
+pub fn wiring_at(rt: &impl Env, i: usize) -> Option<Wiring> {
     if !outside::is_given(rt, i) {
-        return Named::Is(Wiring::Folded);
+        return Some(Wiring::Folded);
     }
     let mut text = [0u8; 16];
     let n = outside::arg(rt, i, &mut text);
@@ -42,8 +35,5 @@ pub fn wiring_at(rt: &impl Env, i: usize) -> Named {
 pub fn wired(r: Registers, wiring: Wiring) -> Registers
     ensures { result ≡ wired_as wiring r }
 {
-    let b = Board { wiring: wiring };
-    let mut q = r;
-    q.board = b;
-    q
+    Registers { board: Board { wiring }, ..r }
 }

@@ -4,4 +4,4 @@ use Rattle.bench.proofs.order.Goals as goal
 
 pub returns : goal.returns
 returns c =
-    asks _ _ c.bytes_used-n.ensures.same c.read_line.ensures c.order_of.ensures
+    asks _ _ c.part.ensures c.read_line.ensures c.order_of.ensures

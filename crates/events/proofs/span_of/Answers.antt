@@ -1,22 +1,19 @@
 -- `span_of` gives `span_of`: the blanks at the end fall off one by one.
-use mathlib.Core.Path.{sym, ◌∙◌}
+use native.Mathlib.Omega.{arith}
+use Prim.Native.Nat.{◌+◌, ◌-◌}
+use mathlib.Core.Path.{◌≡◌, sym, ◌∙◌}
 use Rattle.events.proofs.Laws.{blank_falls, other_stays, none_left}
-use borrow.Author.Rules.{rules}
 use Rattle.events.proofs.span_of.Goals as goal
 
-pub loop-n-preserved : goal.loop-n-preserved
-loop-n-preserved c = (
-  search rules,
-  c.loop-n.invariant.1
-      ∙ blank_falls _ _ c.loop-n-test.true (sym c.blank.ensures ∙ c.if-blank.true),
-)
+pub returns-then-not-blank : goal.returns-then-not-blank
+returns-then-not-blank c =
+    let same : c.loop-i.i - 1 + 1 ≡ c.loop-i.i = omega arith in (
+      omega arith,
+      same ∙ sym (c.loop-i.invariant ∙ other_stays _ _ c.loop-i-test.true (sym c.blank.ensures ∙ c.if-not-blank.true)),
+    )
 
-pub returns-else-blank : goal.returns-else-blank
-returns-else-blank c = (
-  search rules,
-  sym (c.loop-n.invariant.1
-      ∙ other_stays _ _ c.loop-n-test.true (sym c.blank.ensures ∙ c.if-blank.false)),
-)
+pub loop-i-preserved : goal.loop-i-preserved
+loop-i-preserved c = c.loop-i.invariant ∙ blank_falls _ _ c.loop-i-test.true (sym c.blank.ensures ∙ c.if-not-blank.false)
 
 pub returns : goal.returns
-returns c = (search rules, sym (c.loop-n.invariant.1 ∙ none_left _ _ c.loop-n-test.false))
+returns c = (omega arith, sym (c.loop-i.invariant ∙ none_left _ _ c.loop-i-test.false))

@@ -1,32 +1,29 @@
 -- `bytes_right` gives `bytes_b`: the digits still to be read decide, at each turn.
-use borrow.Author.Rules.{rules}
-use borrow.Author.Tests.{eq-eqb}
 use mathlib.Core.Path.{sym, ◌∙◌}
-use Rattle.script.proofs.Laws.{bytes_odd, bytes_start, digits_fail, digits_go_on, digits_end}
 use Rattle.script.specs.Digits.{bytes_b}
+use Rattle.script.proofs.DigitLaws.{none_fails, some_passes}
+use Rattle.script.proofs.Laws.{bytes_odd, bytes_start, digits_fail, digits_go_on, digits_end}
 use Rattle.script.proofs.bytes_right.Goals as goal
 
-pub returns-then-s-eq0 : goal.returns-then-s-eq0
+pub returns-then-is_empty : goal.returns-then-is_empty
 unfolding bytes_b
-returns-then-s-eq0 c = rw (eq-eqb _ 0 c.if-s-eq0.true)
+returns-then-is_empty c = rw (sym c.if-is_empty.ensures)
 
 pub returns-then-s-eq1 : goal.returns-then-s-eq1
-returns-then-s-eq1 c = sym (bytes_odd _ c.if-s-eq0.false c.if-s-eq1.true)
+returns-then-s-eq1 c = sym (bytes_odd _ c.if-is_empty.ensures c.if-s-eq1.true)
 
-pub loop-i-init : goal.loop-i-init
-loop-i-init c = (search rules, bytes_start _ c.if-s-eq0.false c.if-s-eq1.false)
+pub loop-b-init : goal.loop-b-init
+loop-b-init c = bytes_start _ c.if-is_empty.ensures c.if-s-eq1.false
 
-pub returns-then-d-eq16 : goal.returns-then-d-eq16
-returns-then-d-eq16 c =
-    sym (c.loop-i.invariant.1
-    ∙ digits_fail _ _ c.loop-i-test.true c.digit_of-d.ensures c.if-d-eq16.true)
+pub returns-then-is_none : goal.returns-then-is_none
+returns-then-is_none c =
+    sym (c.loop-b.invariant
+    ∙ digits_fail _ _ c.loop-b-test.true (none_fails _ _ c.digit_of.ensures c.if-is_none.ensures))
 
-pub loop-i-preserved : goal.loop-i-preserved
-loop-i-preserved c = (
-  search rules,
-  c.loop-i.invariant.1
-      ∙ digits_go_on _ _ c.loop-i-test.true c.digit_of-d.ensures c.if-d-eq16.false,
-)
+pub loop-b-preserved : goal.loop-b-preserved
+loop-b-preserved c =
+    c.loop-b.invariant
+    ∙ digits_go_on _ _ c.loop-b-test.true (some_passes _ _ c.digit_of.ensures c.if-is_none.ensures)
 
 pub returns : goal.returns
-returns c = sym (c.loop-i.invariant.1 ∙ digits_end _ _ c.loop-i-test.false)
+returns c = sym (c.loop-b.invariant ∙ digits_end _ _ c.loop-b-test.false)

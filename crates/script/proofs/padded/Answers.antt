@@ -1,27 +1,11 @@
 -- `padded` gives `padded_b`: the same tests; of no characters the first is none.
-use lib.ListN.{get_or-eq_default}
-use native.Mathlib.Omega.{arith}
-use borrow.Author.Tests.{eq-eqb, ne_eqb}
-use Rattle.script.specs.Line.{padded_b}
+use Rattle.std.proofs.Common.{inl, inr}
+use Rattle.script.proofs.LineLaws.{padded_request, padded_other}
+use Rattle.script.proofs.padded.Goals.{in-70, in_default}
 use Rattle.script.proofs.padded.Goals as goal
 
-pub returns-then-s-eq0 : goal.returns-then-s-eq0
-unfolding padded_b
-returns-then-s-eq0 c = rw (get_or-eq_default c.args.s.now 0 {n = 0} (omega (arith, c.if-s-eq0.true)))
-
-pub returns-then-s-ne48 : goal.returns-then-s-ne48
-unfolding padded_b
-returns-then-s-ne48 c = rw (ne_eqb _ 48 c.if-s-ne48.true)
-
-pub returns-in-70 : goal.returns-in-70
-unfolding padded_b
-returns-in-70 c = rw (eq-eqb _ 48 c.if-s-ne48.false, c.in-70.is)
-
-pub returns-in-74 : goal.returns-in-74
-unfolding padded_b
-returns-in-74 c = rw (eq-eqb _ 48 c.if-s-ne48.false, c.in-74.is)
-
-pub returns-in_default : goal.returns-in_default
-unfolding padded_b
-returns-in_default c = let n = c.in_default.in_default-own.rest in
-    rw (eq-eqb _ 48 c.if-s-ne48.false, ne_eqb _ _ n.0.1, ne_eqb _ _ n.1)
+pub returns : goal.returns
+returns c = elim c.match-matches.branch [
+  | in-70 w ↦ padded_request _ _ c.starts_with.ensures.value w.matches-is w.in-70.is
+  | in_default w ↦ let n = w.in_default.in_default-own.rest in padded_other _ _ c.starts_with.ensures.value w.matches-is (λ e. n.1 (inl e)) (λ e. n.1 (inr e))
+]

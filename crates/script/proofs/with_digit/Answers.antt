@@ -9,4 +9,4 @@ returns-then-n-ge268435456 c = rw (le-leb 268435456 _ c.if-n-ge268435456.true)
 
 pub returns : goal.returns
 unfolding more
-returns c = rw (lt-leb 268435456 _ c.if-n-ge268435456.false)
+returns c = rw (c.from.ensures, lt-leb 268435456 _ c.if-n-ge268435456.false)

@@ -7,7 +7,7 @@ use Rattle.console.proofs.reader.take_line.Goals as goal
 
 pub loop-at-init : goal.loop-at-init
 unfolding taken
-loop-at-init c = (search rules, search rules, rw c.bytes_used-filled.ensures.same)
+loop-at-init c = (search rules, search rules, rw c.used-filled.ensures.same)
 
 pub returns-then-b-eq10 : goal.returns-then-b-eq10
 returns-then-b-eq10 c =

@@ -3,4 +3,4 @@ use Rattle.controls.proofs.MemoryLaws.{clears}
 use Rattle.controls.proofs.memory.clear_first.Goals as goal
 
 pub returns : goal.returns
-returns c = clears _ _ c.words_used-n.ensures.same c.clear.ensures
+returns c = clears _ _ c.used-n.ensures.same c.clear.ensures

@@ -4,4 +4,4 @@ use Rattle.controls.proofs.memory.run_within.Goals as goal
 
 pub returns : goal.returns
 returns c =
-    ran_within _ _ _ _ c.words_used-n.ensures.same c.run.ensures
+    ran_within _ _ _ _ c.used-n.ensures.same c.run.ensures

@@ -1,4 +1,4 @@
--- `sheet_of` gives `sheet_of`: the same test, and the part that `bytes_used` counts.
+-- `sheet_of` gives `sheet_of`: the same test, and the part that is in use.
 use borrow.Author.Tests.{lt-ltb}
 use Rattle.easel.specs.Parts.{sheet_of}
 use Rattle.easel.proofs.PartLaws.{sheet_part}
@@ -9,4 +9,4 @@ unfolding sheet_of
 returns-then-papers-lt-TABLE c = rw (lt-ltb _ 4096 c.if-papers-lt-TABLE.true)
 
 pub returns : goal.returns
-returns c = sheet_part _ _ c.if-papers-lt-TABLE.false c.bytes_used-k.ensures.same
+returns c = sheet_part _ _ c.if-papers-lt-TABLE.false c.part.ensures

@@ -4,6 +4,6 @@ use Rattle.easel.proofs.sheet.send_within.Goals as goal
 
 pub returns : goal.returns
 returns c =
-    played_within_law _ _ _ _ _ c.words_used-count.ensures.same
-    c.words_used-words.ensures.same
+    played_within_law _ _ _ _ _ c.part.ensures
+    c.used-words.ensures.same
     c.send_all.ensures

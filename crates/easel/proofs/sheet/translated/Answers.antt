@@ -4,6 +4,6 @@ use Rattle.easel.proofs.sheet.translated.Goals as goal
 
 pub returns : goal.returns
 returns c =
-    translated_in_law _ _ _ _ c.words_used-n.ensures.same
+    translated_in_law _ _ _ _ c.used-n.ensures.same
     c.sheet_of.ensures c.table_of.ensures
     c.translate.ensures
