@@ -16,7 +16,8 @@ module _ (room : List ℕ) (held : ℕ) where
   full {s} e h =
       sym (ap (λ (x : Held). length x.text) e) ∙ length-take-le held room (omega arith) ∙ h ∙ ap (λ (x : Held). x.size) e
 
-  written : (c : ℕ) → held < length room → seen (set room held c) (held + 1) ≡ record { size = length room; text = take held room ++ c ∷ [] }
+  written : (c : ℕ) → held < length room → seen (set room held c) (held + 1)
+      ≡ record { size = length room; text = take held room ++ c ∷ [] }
   written c h = rw (take_more_set room held c h, length-set room held c)
 
   pub puts_more : {s : Held} (c : ℕ) → seen room held ≡ s → held < length room → seen (set room held c) (held + 1) ≡ with_character s c
