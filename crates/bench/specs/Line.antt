@@ -9,11 +9,10 @@ use Rattle.orders.specs.Order.{order_of}
 abbrev pub characters_of : List ℕ → ℕ → List ℕ
 characters_of line n = take (used_of n line) line
 
--- what it asks for
-unfoldable pub asked_for : List ℕ → ℕ → Order
-asked_for line n = order_of (line_of (characters_of line n))
+-- what characters ask for
+abbrev pub asked_for : List ℕ → Order
+asked_for text = order_of (line_of text)
 
--- what stands behind its letter and the space
-unfoldable pub behind_of : List ℕ → ℕ → List ℕ
-behind_of line n =
-    cond (ltb (length (characters_of line n)) 2) (characters_of line n) (drop 2 (characters_of line n))
+-- what stands behind their letter and the space
+abbrev pub behind_of : List ℕ → List ℕ
+behind_of text = cond (ltb (length text) 2) text (drop 2 text)

@@ -4,171 +4,133 @@
 #![tactic(auto)]
 
 ghost use Rattle.std.specs.Prelude.{◌≡◌};
-ghost use Rattle.bench.specs.Line.{asked_for, behind_of};
+ghost use Rattle.bench.specs.Line.{characters_of, asked_for, behind_of};
 
-use console::desk::{Desk, Done, Left, with_held};
-use console::output::told;
+use console::desk::{Desk, Done, Left};
+use console::output::Output;
 use console::reader::Reader;
-use controls::Worked;
-use easel::Laid;
-use orders::{Order, Show};
+use orders::{Memory, Order, Paper, Show};
 use registers::Registers;
 
-// The registers of a line, and its answer written.
-fn done(a: Done, d: Desk, out: &mut [u8]) -> Left {
-    let q = a.regs;
-    let reply = a.reply;
-    Left {
-        regs: q,
-        desk: with_held(d, told(reply, out, d.held)),
-    }
-}
-
-// The same of a line to the memory.
-fn worked(a: Worked, d: Desk, out: &mut [u8]) -> Left {
-    let q = a.regs;
-    let reply = a.reply;
-    let mut e = d;
-    e.words = a.words;
-    Left {
-        regs: q,
-        desk: with_held(e, told(reply, out, d.held)),
-    }
-}
-
-// The same of a line to the papers.
-fn laid(a: Laid, out: &mut [u8]) -> Desk {
-    let d = a.desk;
-    let reply = a.reply;
-    with_held(d, told(reply, out, d.held))
-}
-
-// What a line asks to see, of the words that the memory has.
-fn shown(r: Registers, d: Desk, s: Show, mem: &[u16], out: &mut [u8]) -> Desk {
-    with_held(d, controls::shown(r, s, buffers::part(d.words, mem), out, d.held))
-}
-
-// What a line of that length asks for.
-fn order(line: &[u8], length: usize) -> Order
-    ensures { result ≡ asked_for line.now length }
+// The characters of a line of that length.
+fn characters(line: &[u8], length: usize) -> &[u8]
+    ensures { result.now ≡ characters_of line.now length }
 {
-    orders::order_of(script::read_line(buffers::part(length, line)))
+    buffers::part(length, line)
+}
+
+// What a line asks for.
+fn order(text: &[u8]) -> Order
+    ensures { result ≡ asked_for text.now }
+{
+    orders::order_of(script::read_line(text))
 }
 
 // What stands behind its letter and the space.
-fn behind(line: &[u8], length: usize) -> &[u8]
-    ensures { result.now ≡ behind_of line.now length }
+fn behind(text: &[u8]) -> &[u8]
+    ensures { result.now ≡ behind_of text.now }
 {
-    let all = buffers::part(length, line);
-    if all.len() < 2 {
-        return all;
-    }
-    &all[2..]
+    text.get(2..).unwrap_or(text)
 }
 
-// A line that leaves the registers.
-fn quiet(
-    r: Registers,
-    d: Desk,
-    o: Order,
-    hex: &[u8],
-    mem: &[u16],
-    papers: &mut [u8],
-    out: &mut [u8],
-) -> Desk {
-    match o {
-        Order::OfShow(s) => shown(r, d, s, mem, out),
-        Order::OfPaper(p) => laid(easel::paper_done(d, p, hex, papers), out),
-        Order::Translate(n) => with_held(d, easel::translation(d, n, papers, out)),
-        _ => with_held(d, console::output::unknown(out, d.held)),
-    }
+// What stands on the bench, and the buffer of the memory. (With the papers' buffer here too `draw` has no generated proof: it lends one
+// and reads the other.)
+#[derive(Drop)]
+struct Bench<'a> {
+    regs: Registers,
+    desk: Desk,
+    mem: &'a mut [u16],
 }
 
-// What a line asks for is done.
-fn answer(
-    r: Registers,
-    d: Desk,
-    o: Order,
-    hex: &[u8],
-    mem: &mut [u16],
-    papers: &mut [u8],
-    out: &mut [u8],
-) -> Left {
-    match o {
-        Order::OfPort(p) => done(controls::port_done(r, p), d, out),
-        Order::OfMemory(m) => worked(controls::memory_done(r, d.words, m, mem), d, out),
-        Order::Draw => done(easel::drawing(r, d, mem, papers), d, out),
-        Order::Count(n) => done(controls::count_done(r, n), d, out),
-        Order::Wire(w) => done(controls::wiring_done(r, w), d, out),
-        _ => Left {
-            regs: r,
-            desk: quiet(r, d, o, hex, mem, papers, out),
-        },
-    }
+// How far the script is read, and the buffers of a piece of it and of a line.
+#[derive(Drop)]
+struct Script<'a> {
+    reader: Reader,
+    input: &'a mut [u8],
+    line: &'a mut [u8],
 }
 
-// What is carried from turn to turn.
-#[derive(Clone, Copy)]
-pub struct Bench {
-    pub left: Left,
-    pub reader: Reader,
+impl<'a> Bench<'a> {
+    // The registers of a line, and its answer written.
+    fn done(&mut self, a: Done, out: &mut Output) {
+        self.regs = a.regs;
+        out.told(a.reply);
+    }
+
+    // A line to the memory.
+    fn memory(&mut self, m: Memory, out: &mut Output) {
+        let a = controls::memory_done(self.regs, self.desk.words, m, self.mem);
+        self.regs = a.regs;
+        self.desk.words = a.words;
+        out.told(a.reply);
+    }
+
+    // A line to the papers.
+    fn paper(&mut self, p: Paper, hex: &[u8], papers: &mut [u8], out: &mut Output) {
+        let a = easel::paper_done(self.desk, p, hex, papers);
+        self.desk = a.desk;
+        out.told(a.reply);
+    }
+
+    // A line that draws the sheet.
+    fn draw(&mut self, papers: &[u8], out: &mut Output) {
+        let a = easel::drawing(self.regs, self.desk, self.mem, papers);
+        self.done(a, out);
+    }
+
+    // What a line asks to see, of the words that the memory has.
+    fn show(&self, s: Show, out: &mut Output) {
+        controls::shown(self.regs, s, buffers::part(self.desk.words, self.mem), out);
+    }
+
+    // What a line asks for is done.
+    fn answer(&mut self, o: Order, hex: &[u8], papers: &mut [u8], out: &mut Output) {
+        match o {
+            Order::Unknown => out.unknown(),
+            Order::OfPort(p) => self.done(controls::port_done(self.regs, p), out),
+            Order::OfMemory(m) => self.memory(m, out),
+            Order::OfShow(s) => self.show(s, out),
+            Order::OfPaper(p) => self.paper(p, hex, papers, out),
+            Order::Translate(n) => easel::translation(self.desk, n, papers, out),
+            Order::Draw => self.draw(papers, out),
+            Order::Count(n) => self.done(controls::count_done(self.regs, n), out),
+            Order::Wire(w) => self.done(controls::wiring_done(self.regs, w), out),
+        }
+    }
 }
 
 // The next line is answered, if one is whole.
 fn turn(
     rt: &impl Input,
-    b: Bench,
-    input: &mut [u8],
-    line: &mut [u8],
-    mem: &mut [u16],
+    script: &mut Script,
+    bench: &mut Bench,
     papers: &mut [u8],
-    out: &mut [u8],
-) -> Bench {
-    let l = b.left;
-    let q = l.regs;
-    let d = l.desk;
-    let r = console::reader::next_line(rt, b.reader, input, line, out, d.held);
+    out: &mut Output,
+) {
+    let r = script.reader.next_line(rt, script.input, script.line, out);
+    script.reader = r;
     if r.whole {
-        let o = order(line, r.length);
-        return Bench {
-            left: answer(q, d, o, behind(line, r.length), mem, papers, out),
-            reader: console::reader::past(r),
-        };
-    }
-    Bench {
-        left: Left {
-            regs: q,
-            desk: with_held(d, 0),
-        },
-        reader: r,
+        let text = characters(script.line, r.length);
+        bench.answer(order(text), behind(text), papers, out);
+        script.reader = r.past();
     }
 }
 
-// A proved loop has to end, and nothing says that a script does: the turns are counted down from a number that no run uses up.
+// A proved loop has to end, and nothing says that a script does: the turns are counted, to a number that no run uses up.
 fn turns(
     rt: &impl Input,
-    input: &mut [u8],
-    line: &mut [u8],
-    mem: &mut [u16],
+    script: &mut Script,
+    bench: &mut Bench,
     papers: &mut [u8],
-    out: &mut [u8],
+    out: &mut Output,
 ) {
-    let mut b = Bench {
-        left: console::desk::start(),
-        reader: console::reader::start(),
-    };
-    let mut left = u64::MAX;
-    while 0 < left {
-        b = turn(rt, b, input, line, mem, papers, out);
-        if b.reader.ended {
-            left = 0;
-        } else {
-            left -= 1;
+    for _ in 0..u64::MAX {
+        turn(rt, script, bench, papers, out);
+        if script.reader.ended {
+            break;
         }
     }
-    let l = b.left;
-    let d = l.desk;
-    console::output::flush(out, d.held);
+    out.flush();
 }
 
 // A line of 20,001 characters is held, so that a longer one than is lawful is seen; the papers are 4,096 bytes of a glyph table and
@@ -178,6 +140,23 @@ fn main(rt: HostRuntime) {
     let mut line = [0u8; 20001];
     let mut mem = [0u16; 262144];
     let mut papers = [0u8; 12800];
-    let mut out = [0u8; 65536];
-    turns(&rt, &mut input, &mut line, &mut mem, &mut papers, &mut out);
+    let mut room = [0u8; 65536];
+    let Left { regs, desk } = console::desk::start();
+    let mut script = Script {
+        reader: Reader::start(),
+        input: &mut input,
+        line: &mut line,
+    };
+    let mut bench = Bench {
+        regs,
+        desk,
+        mem: &mut mem,
+    };
+    turns(
+        &rt,
+        &mut script,
+        &mut bench,
+        &mut papers,
+        &mut Output::new(&mut room),
+    );
 }

@@ -1,3 +1,4 @@
 pub mod Desk
+pub mod Output
 pub mod Reader
 pub mod Upper

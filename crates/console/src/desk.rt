@@ -1,6 +1,6 @@
 // What stands on the bench: the registers, how much of each buffer is in use, and the picture's size.
 ghost use Rattle.std.specs.Prelude.{◌≡◌};
-ghost use Rattle.console.specs.Desk.{before_first, with_held};
+ghost use Rattle.console.specs.Desk.{before_first};
 
 use registers::Registers;
 
@@ -14,8 +14,6 @@ pub struct Desk {
     // The bytes of the glyph table, and of the sheet.
     pub glyphs: usize,
     pub sheet: usize,
-    // The characters of answers that are not yet written out.
-    pub held: usize,
 }
 
 // What a line of the script leaves.
@@ -54,15 +52,6 @@ pub fn start() -> Left
             down: 400,
             glyphs: 0,
             sheet: 0,
-            held: 0,
         },
     }
-}
-
-pub fn with_held(d: Desk, held: usize) -> Desk
-    ensures { result ≡ with_held d held }
-{
-    let mut n = d;
-    n.held = held;
-    n
 }

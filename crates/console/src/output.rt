@@ -1,27 +1,27 @@
-// The answers, held in a buffer until it is full or the script is to be waited for. A number that is answered here is how many
-// characters are held.
-ghost use Rattle.std.specs.Prelude.{◌≡◌};
+// The answers, held in a room until it is full or the script is to be waited for.
+ghost use Rattle.std.specs.Prelude.{◌≡◌, length};
 ghost use Rattle.console.specs.Upper.{upper_of};
+ghost use Rattle.console.specs.Output.{nothing_held, with_character};
 
 use crate::desk::Reply;
+use std::marker::Model;
 
-// What is held is written out: whether all of it was taken.
-pub fn flush(out: &[u8], held: usize) -> bool {
-    io::write_all(1, buffers::part(held, out))
+// The characters that are not yet written out stand at the start of the room. A clause sees them, and how large the room is.
+#[derive(Drop)]
+pub struct Output<'a> {
+    room: &'a mut [u8],
+    held: usize,
 }
 
-// One character more; a full buffer is written out first.
-pub fn character(out: &mut [u8], held: usize, c: u8) -> usize {
-    if held < out.len() {
-        out[held] = c;
-        return held + 1;
-    }
-    io::write_all(1, out);
-    if 0 < out.len() {
-        out[0] = c;
-        return 1;
-    }
-    0
+impl<'a> Model for Output<'a> {
+    ghost use Rattle.std.specs.Prelude.{◌≤◌, length, take};
+    ghost use Rattle.console.specs.Output.{Held};
+
+    ghost Value = { Held };
+
+    ghost view = { λ o. record { size = length o.room.now; text = take o.held o.room.now } };
+
+    ghost invariant = { λ o. o.held ≤ length o.room.now };
 }
 
 // The digits A to F in upper case.
@@ -31,98 +31,108 @@ fn upper(c: u8) -> u8
     if 97 <= c { c - 32 } else { c }
 }
 
-fn digits(out: &mut [u8], held: usize, text: &[u8]) -> usize {
-    let mut n = held;
-    let mut i: usize = 0;
-    while i < text.len() {
-        n = character(out, n, upper(text[i]));
-        i += 1;
+impl<'a> Output<'a> {
+    pub fn new(room: &'a mut [u8]) -> Output<'a>
+        ensures { result ≡ nothing_held (length room.old) }
+    {
+        Output { room, held: 0 }
     }
-    n
-}
 
-// A number in hexadecimal, of that many digits at the least.
-fn number(out: &mut [u8], held: usize, value: u64, width: usize) -> usize {
-    let mut text = [0u8; 16];
-    let k = io::hex(value, width, &mut text);
-    digits(out, held, &text[..k])
-}
-
-// A space and a number of that many digits at the least.
-pub fn padded(out: &mut [u8], held: usize, value: u64, width: usize) -> usize {
-    let n = character(out, held, b' ');
-    number(out, n, value, width)
-}
-
-// A space and a number, for each value.
-pub fn fields(out: &mut [u8], held: usize, values: &[u64]) -> usize {
-    let mut n = held;
-    let mut i: usize = 0;
-    while i < values.len() {
-        n = padded(out, n, values[i], 1);
-        i += 1;
+    // What is held is written out: whether all of it was taken.
+    pub fn flush(&mut self) -> bool
+        ensures { self.new ≡ nothing_held self.old.size }
+    {
+        let held = self.held;
+        let taken = io::write_all(1, &self.room[..held]);
+        self.held = 0;
+        taken
     }
-    n
-}
 
-fn wide(b: u8) -> u64
-    ensures { result ≡ b }
-{
-    b as u64
-}
-
-// A space and bytes of two digits each.
-pub fn pairs(out: &mut [u8], held: usize, bytes: &[u8]) -> usize {
-    let mut n = character(out, held, b' ');
-    let mut i: usize = 0;
-    while i < bytes.len() {
-        n = number(out, n, wide(bytes[i]), 2);
-        i += 1;
+    // One character more; a full room is written out first.
+    pub fn character(&mut self, c: u8)
+        ensures holds { self.new ≡ with_character self.old c }
+        ensures size { self.new.size ≡ self.old.size }
+    {
+        if self.held == self.room.len() {
+            self.flush();
+        }
+        if self.held < self.room.len() {
+            self.room[self.held] = c;
+            self.held += 1;
+        }
     }
-    n
-}
 
-fn wide_word(w: u16) -> u64
-    ensures { result ≡ w }
-{
-    w as u64
-}
-
-// A space and a word of that many digits at the least, for each.
-pub fn words(out: &mut [u8], held: usize, values: &[u16], width: usize) -> usize {
-    let mut n = held;
-    let mut i: usize = 0;
-    while i < values.len() {
-        n = padded(out, n, wide_word(values[i]), width);
-        i += 1;
+    // A number in hexadecimal, of that many digits at the least.
+    fn number(&mut self, value: u64, width: usize)
+        ensures { self.new.size ≡ self.old.size }
+    {
+        let mut text = [0u8; 16];
+        let count = io::hex(value, width, &mut text);
+        for &digit in &text[..count] {
+            self.character(upper(digit));
+        }
     }
-    n
-}
 
-// A letter and numbers.
-pub fn begun(out: &mut [u8], held: usize, letter: u8, values: &[u64]) -> usize {
-    let n = character(out, held, letter);
-    fields(out, n, values)
-}
+    // A space and a number of that many digits at the least.
+    pub fn padded(&mut self, value: u64, width: usize)
+        ensures { self.new.size ≡ self.old.size }
+    {
+        self.character(b' ');
+        self.number(value, width);
+    }
 
-// A whole line of a letter and numbers.
-fn line(out: &mut [u8], held: usize, letter: u8, values: &[u64]) -> usize {
-    let n = begun(out, held, letter, values);
-    character(out, n, b'\n')
-}
+    // A space and a number of that many digits at the least, for each value.
+    pub fn fields<T: Copy + Into<u64>>(&mut self, values: &[T], width: usize)
+        ensures { self.new.size ≡ self.old.size }
+    {
+        for &v in values {
+            self.padded(v.into(), width);
+        }
+    }
 
-// The answer to a line that is not of the language.
-pub fn unknown(out: &mut [u8], held: usize) -> usize {
-    line(out, held, b'?', &[])
-}
+    // A space and bytes of two digits each.
+    pub fn pairs(&mut self, bytes: &[u8])
+        ensures { self.new.size ≡ self.old.size }
+    {
+        self.character(b' ');
+        for &b in bytes {
+            self.number(u64::from(b), 2);
+        }
+    }
 
-// An answer.
-pub fn told(reply: Reply, out: &mut [u8], held: usize) -> usize {
-    match reply {
-        Reply::Unknown => unknown(out, held),
-        Reply::One(letter, a) => line(out, held, letter, &[a]),
-        Reply::Two(letter, a, b) => line(out, held, letter, &[a, b]),
-        Reply::Three(letter, a, b, c) => line(out, held, letter, &[a, b, c]),
-        Reply::Four(letter, a, b, c, d) => line(out, held, letter, &[a, b, c, d]),
+    // A letter and numbers.
+    pub fn begun(&mut self, letter: u8, values: &[u64])
+        ensures { self.new.size ≡ self.old.size }
+    {
+        self.character(letter);
+        self.fields(values, 1);
+    }
+
+    // A whole line of a letter and numbers.
+    pub fn line(&mut self, letter: u8, values: &[u64])
+        ensures { self.new.size ≡ self.old.size }
+    {
+        self.begun(letter, values);
+        self.character(b'\n');
+    }
+
+    // The answer to a line that is not of the language.
+    pub fn unknown(&mut self)
+        ensures { self.new.size ≡ self.old.size }
+    {
+        self.line(b'?', &[]);
+    }
+
+    // An answer.
+    pub fn told(&mut self, reply: Reply)
+        ensures { self.new.size ≡ self.old.size }
+    {
+        match reply {
+            Reply::Unknown => self.unknown(),
+            Reply::One(letter, a) => self.line(letter, &[a]),
+            Reply::Two(letter, a, b) => self.line(letter, &[a, b]),
+            Reply::Three(letter, a, b, c) => self.line(letter, &[a, b, c]),
+            Reply::Four(letter, a, b, c, d) => self.line(letter, &[a, b, c, d]),
+        }
     }
 }

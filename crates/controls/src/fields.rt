@@ -20,9 +20,7 @@ fn put(r: Registers) -> Done
 pub fn count_done(r: Registers, v: u64) -> Done
     ensures { result ≡ count_done r v }
 {
-    let mut n = r;
-    n.remaining = v;
-    put(n)
+    put(Registers { remaining: v, ..r })
 }
 
 // The numbers of the answer to `F 103`; the request's has its decimal digits when it is written in hexadecimal.
@@ -52,7 +50,5 @@ fn wiring_number(w: Wiring) -> u64
 pub fn wiring_fields(r: Registers) -> [u64; 2]
     ensures { result ≡ wiring_fields r }
 {
-    let b = r.board;
-    let w = b.wiring;
-    [0x108, wiring_number(w)]
+    [0x108, wiring_number(r.board.wiring)]
 }

@@ -27,6 +27,7 @@ pub struct Worked {
     pub reply: Reply,
 }
 
+#[tactic(auto, unfolding(crate::specs::Memory::cleared_first))]
 fn clear_first(mem: &mut [u16], words: usize)
     ensures { mem.new ≡ cleared_first words mem.old }
 {
@@ -45,6 +46,7 @@ fn fresh_letter(w: Wiring) -> u8
 }
 
 // `M n`, `O n`: fresh registers, so wired, and a memory of n zero words.
+#[tactic(auto, unfolding(crate::specs::Memory::fresh_done))]
 fn fresh(w: Wiring, r: Registers, words: usize, n: u64, mem: &mut [u16]) -> Worked
     ensures { outcome result mem.new ≡ fresh_done w r words n mem.old }
 {
@@ -53,7 +55,7 @@ fn fresh(w: Wiring, r: Registers, words: usize, n: u64, mem: &mut [u16]) -> Work
     if !units::length_right(w, wanted) {
         return Worked {
             regs: r,
-            words: words,
+            words,
             reply: Reply::One(letter, 2),
         };
     }
@@ -66,6 +68,7 @@ fn fresh(w: Wiring, r: Registers, words: usize, n: u64, mem: &mut [u16]) -> Work
 }
 
 // `W a v`: a word of the memory.
+#[tactic(auto, unfolding(crate::specs::Memory::word_done))]
 fn word(words: usize, a: u64, v: u16, mem: &mut [u16]) -> Reply
     ensures { put result mem.new ≡ word_done words a v mem.old }
 {
@@ -78,6 +81,7 @@ fn word(words: usize, a: u64, v: u16, mem: &mut [u16]) -> Reply
 }
 
 // A run over the words that the memory has.
+#[tactic(auto, unfolding(crate::specs::Memory::run_within))]
 fn run_within(r: Registers, mem: &mut [u16], words: usize, budget: u32) -> Ran
     ensures { ranOutcome result mem.new ≡ run_within r mem.old words budget }
 {
@@ -89,15 +93,15 @@ fn run_within(r: Registers, mem: &mut [u16], words: usize, budget: u32) -> Ran
 fn run(a: Ran, words: usize) -> Worked
     ensures { result ≡ run_told a words }
 {
-    let q = a.regs;
     Worked {
-        regs: q,
-        words: words,
+        regs: a.regs,
+        words,
         reply: Reply::Three(b'U', a.number as u64, a.count as u64, a.why as u64),
     }
 }
 
 // What a line to the memory does.
+#[tactic(auto, unfolding(crate::specs::Memory::memory_done))]
 pub fn memory_done(r: Registers, words: usize, m: Memory, mem: &mut [u16]) -> Worked
     ensures { outcome result mem.new ≡ memory_done r words m mem.old }
 {
@@ -106,7 +110,7 @@ pub fn memory_done(r: Registers, words: usize, m: Memory, mem: &mut [u16]) -> Wo
         Memory::Run(n) => run(run_within(r, mem, words, n), words),
         Memory::Word(a, v) => Worked {
             regs: r,
-            words: words,
+            words,
             reply: word(words, a, v, mem),
         },
     }

@@ -11,11 +11,9 @@ use registers::Registers;
 fn numbered(letter: u8, a: Answer) -> Done
     ensures { result ≡ number_told letter a }
 {
-    let q = a.regs;
-    let reply = Reply::One(letter, a.number as u64);
     Done {
-        regs: q,
-        reply: reply,
+        regs: a.regs,
+        reply: Reply::One(letter, a.number as u64),
     }
 }
 
@@ -23,11 +21,9 @@ fn numbered(letter: u8, a: Answer) -> Done
 fn byte_read(a: Answer) -> Done
     ensures { result ≡ byte_told a }
 {
-    let q = a.regs;
-    let reply = Reply::Two(b'R', a.number as u64, a.value as u64);
     Done {
-        regs: q,
-        reply: reply,
+        regs: a.regs,
+        reply: Reply::Two(b'R', a.number as u64, a.value as u64),
     }
 }
 
@@ -35,15 +31,14 @@ fn byte_read(a: Answer) -> Done
 fn status_read(a: Answer) -> Done
     ensures { result ≡ status_told a }
 {
-    let q = a.regs;
-    let reply = Reply::One(b'S', a.value as u64);
     Done {
-        regs: q,
-        reply: reply,
+        regs: a.regs,
+        reply: Reply::One(b'S', a.value as u64),
     }
 }
 
 // What a line to the ports does.
+#[tactic(auto, unfolding(crate::specs::Port::port_done))]
 pub fn port_done(r: Registers, p: Port) -> Done
     ensures { result ≡ port_done r p }
 {

@@ -18,20 +18,17 @@ refused_on d = record { desk = d; reply = Unknown }
 -- `Q p h`: "the picture's size for the sheets that follow"
 abbrev pub size_laid : Desk → ℕ → ℕ → Laid
 size_laid d p h =
-    accepted_on
-    (record { words = d.words; across = p; down = h; glyphs = d.glyphs; sheet = d.sheet; held = d.held }) 81
+    accepted_on (record { words = d.words; across = p; down = h; glyphs = d.glyphs; sheet = d.sheet }) 81
 
 -- `G`: the glyph table has n bytes
 abbrev pub glyphs_laid : Desk → ℕ → Laid
 glyphs_laid d n =
-    accepted_on
-    (record { words = d.words; across = d.across; down = d.down; glyphs = n; sheet = d.sheet; held = d.held }) 71
+    accepted_on (record { words = d.words; across = d.across; down = d.down; glyphs = n; sheet = d.sheet }) 71
 
 -- `Z` and `B`: the sheet has n bytes
 abbrev pub sheet_laid : Desk → ℕ → ℕ → Laid
 sheet_laid d n letter =
-    accepted_on
-    (record { words = d.words; across = d.across; down = d.down; glyphs = d.glyphs; sheet = n; held = d.held }) letter
+    accepted_on (record { words = d.words; across = d.across; down = d.down; glyphs = d.glyphs; sheet = n }) letter
 
 -- an answer, with what the papers then hold
 pub record Outcome : Type 0 where

@@ -51,39 +51,37 @@ fn refused(d: Desk) -> Laid
 fn size(d: Desk, p: u32, h: u32) -> Laid
     ensures { result ≡ size_laid d p h }
 {
-    let mut e = d;
-    e.across = p;
-    e.down = h;
-    accepted(e, b'Q')
+    accepted(
+        Desk {
+            across: p,
+            down: h,
+            ..d
+        },
+        b'Q',
+    )
 }
 
 // The glyph table has n bytes: none with `G` alone.
 fn glyphs_are(d: Desk, n: usize) -> Laid
     ensures { result ≡ glyphs_laid d n }
 {
-    let mut e = d;
-    e.glyphs = n;
-    accepted(e, b'G')
+    accepted(Desk { glyphs: n, ..d }, b'G')
 }
 
 // The sheet has n bytes: none with `Z`.
 fn sheet_is(d: Desk, n: usize, letter: u8) -> Laid
     ensures { result ≡ sheet_laid d n letter }
 {
-    let mut e = d;
-    e.sheet = n;
-    accepted(e, letter)
+    accepted(Desk { sheet: n, ..d }, letter)
 }
 
 // `G hex`
+#[tactic(auto, unfolding(crate::specs::Paper::new_glyphs))]
 fn new_glyphs(d: Desk, hex: &[u8], papers: &mut [u8]) -> Laid
     ensures { outcome result papers.new ≡ new_glyphs d hex.now papers.old }
 {
     let n = hex.len() / 2;
-    if TABLE < n {
-        return refused(d);
-    }
-    if !script::bytes_right(hex) {
+    if TABLE < n || !script::bytes_right(hex) {
         return refused(d);
     }
     script::put_bytes(hex, papers, 0);
@@ -91,18 +89,13 @@ fn new_glyphs(d: Desk, hex: &[u8], papers: &mut [u8]) -> Laid
 }
 
 // `B hex`
+#[tactic(auto, unfolding(crate::specs::Paper::more_sheet))]
 fn more_sheet(d: Desk, hex: &[u8], papers: &mut [u8]) -> Laid
     ensures { outcome result papers.new ≡ more_sheet d hex.now papers.old }
 {
     let n = hex.len() / 2;
     let had = d.sheet;
-    if SHEET < had {
-        return refused(d);
-    }
-    if SHEET - had < n {
-        return refused(d);
-    }
-    if !script::bytes_right(hex) {
+    if SHEET < had || SHEET - had < n || !script::bytes_right(hex) {
         return refused(d);
     }
     script::put_bytes(hex, papers, TABLE + had);
@@ -110,6 +103,7 @@ fn more_sheet(d: Desk, hex: &[u8], papers: &mut [u8]) -> Laid
 }
 
 // What a line to the papers does; hex is what stands behind its letter and the space.
+#[tactic(auto, unfolding(crate::specs::Paper::paper_done))]
 pub fn paper_done(d: Desk, p: Paper, hex: &[u8], papers: &mut [u8]) -> Laid
     ensures { outcome result papers.new ≡ paper_done d p hex.now papers.old }
 {
@@ -130,11 +124,12 @@ pub fn table_of(papers: &[u8], n: usize) -> &[u8]
 }
 
 // The sheet's n bytes.
+#[tactic(auto, unfolding(crate::specs::Parts::sheet_of))]
 pub fn sheet_of(papers: &[u8], n: usize) -> &[u8]
     ensures { result.now ≡ sheet_of papers.now n }
 {
-    if papers.len() < TABLE {
+    let Some(rest) = papers.get(TABLE..) else {
         return papers;
-    }
-    buffers::part(n, &papers[TABLE..])
+    };
+    buffers::part(n, rest)
 }

@@ -8,11 +8,12 @@ ghost use Rattle.easel.specs.Drawing.{translated_in, cost_told, played, played_w
 
 use crate::paper::{sheet_of, table_of};
 use console::desk::{Desk, Done, Reply};
-use console::output;
+use console::output::Output;
 use finishing::Sent;
 use registers::Registers;
 
 // The sheet is translated into a room of that many entries.
+#[tactic(auto, unfolding(crate::specs::Drawing::translated_in))]
 fn translated(d: Desk, papers: &[u8], entries: &mut [u16], room: usize) -> blocks::Answer
     ensures { translatedTo result entries.new ≡ translated_in d papers.now entries.old room }
 {
@@ -27,22 +28,21 @@ fn translated(d: Desk, papers: &[u8], entries: &mut [u16], room: usize) -> block
 }
 
 // The answer to a translation: its numbers, and the entries of one that was accepted.
-fn translation_told(a: blocks::Answer, entries: &[u16], out: &mut [u8], held: usize) -> usize {
+fn translation_told(a: blocks::Answer, entries: &[u16], out: &mut Output) {
     let values = [a.number as u64, a.first as u64, a.second as u64];
-    let n = output::begun(out, held, b'T', &values);
-    if a.number != 0 {
-        return output::character(out, n, b'\n');
+    out.begun(b'T', &values);
+    if a.number == 0 {
+        out.fields(buffers::part(a.first as usize, entries), 4);
     }
-    let m = output::words(out, n, buffers::part(a.first as usize, entries), 4);
-    output::character(out, m, b'\n')
+    out.character(b'\n');
 }
 
-// What `T n` writes; how many characters are held then. No translation is longer than the entries that are lent here, so a greater
+// What `T n` writes. No translation is longer than the entries that are lent here, so a greater
 // room changes nothing.
-pub fn translation(d: Desk, room: u32, papers: &[u8], out: &mut [u8]) -> usize {
+pub fn translation(d: Desk, room: u32, papers: &[u8], out: &mut Output) {
     let mut entries = [0u16; 128802];
     let a = translated(d, papers, &mut entries, room as usize);
-    translation_told(a, &entries, out, d.held)
+    translation_told(a, &entries, out);
 }
 
 // `K`
@@ -69,22 +69,18 @@ fn send_all(r: Registers, entries: &[u16], mem: &mut [u16]) -> Sent
     requires { length entries.now ≤ 128802 }
     ensures { outcome result mem.new ≡ played (state r mem.old) entries.now }
 {
-    let mut q = r;
+    let mut regs = r;
     let mut units: u64 = 0;
-    let mut i: usize = 0;
-    while i < entries.len() {
-        let s = finishing::finish(sends::to_port(q, entries[i]), mem);
-        q = s.regs;
+    for &e in entries {
+        let s = finishing::finish(sends::to_port(regs, e), mem);
+        regs = s.regs;
         units += s.units;
-        i += 1;
     }
-    Sent {
-        regs: q,
-        units: units,
-    }
+    Sent { regs, units }
 }
 
 // The first n entries are sent, over the words that the memory has.
+#[tactic(auto, unfolding(crate::specs::Drawing::played_within))]
 fn send_within(r: Registers, entries: &[u16], n: u32, mem: &mut [u16], most: usize) -> Sent
     requires { length entries.now ≤ 128802 }
     ensures { outcome result mem.new ≡ played_within r (part_of n entries.now) mem.old most }
@@ -97,9 +93,8 @@ fn send_within(r: Registers, entries: &[u16], n: u32, mem: &mut [u16], most: usi
 fn drawing_done(a: blocks::Answer, s: Sent) -> Done
     ensures { result ≡ drawing_told a s }
 {
-    let q = s.regs;
     Done {
-        regs: q,
+        regs: s.regs,
         reply: Reply::Four(
             b'X',
             a.number as u64,
@@ -111,6 +106,7 @@ fn drawing_done(a: blocks::Answer, s: Sent) -> Done
 }
 
 // `X`
+#[tactic(auto, unfolding(crate::specs::Drawing::drawing_done))]
 pub fn drawing(r: Registers, d: Desk, mem: &mut [u16], papers: &[u8]) -> Done
     ensures { drew result mem.new ≡ drawing_done r d mem.old papers.now }
 {

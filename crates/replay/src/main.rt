@@ -10,6 +10,7 @@
 ghost use Rattle.std.specs.Prelude.{◌≡◌, ◌<◌};
 ghost use Rattle.replay.specs.Plane.{plane_refused, fresh_on};
 
+use console::output::Output;
 use console::reader::Reader;
 use decimals::Number;
 use dots::Wiring;
@@ -41,7 +42,7 @@ pub struct Told {
 // A whole line is read.
 fn read(t: Tally, r: Reader, line: &[u8]) -> Told {
     Told {
-        reader: console::reader::past(r),
+        reader: r.past(),
         tally: log::line(t),
         event: events::event_of(buffers::part(r.length, line)),
     }
@@ -49,7 +50,9 @@ fn read(t: Tally, r: Reader, line: &[u8]) -> Told {
 
 // The next line, if one is whole; else more of the record is read, which says nothing yet.
 fn next(rt: &HostRuntime, t: Told, input: &mut [u8], line: &mut [u8]) -> Told {
-    let r = console::reader::next_line(rt, t.reader, input, line, &[], 0);
+    let r = t
+        .reader
+        .next_line(rt, input, line, &mut Output::new(&mut []));
     if r.whole {
         return read(t.tally, r, line);
     }
@@ -119,7 +122,7 @@ fn left_after(t: Told, left: u64) -> u64
 // Before the first line.
 fn start() -> Told {
     Told {
-        reader: console::reader::start(),
+        reader: Reader::start(),
         tally: log::start(),
         event: Event::Nothing,
     }

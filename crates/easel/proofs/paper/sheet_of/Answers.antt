@@ -1,12 +1,7 @@
--- `sheet_of` gives `sheet_of`: the same test, and the part that is in use.
-use borrow.Author.Tests.{lt-ltb}
-use Rattle.easel.specs.Parts.{sheet_of}
+-- `sheet_of` gives `sheet_of`: the part that `used` counts of what is behind the table.
 use Rattle.easel.proofs.PartLaws.{sheet_part}
 use Rattle.easel.proofs.paper.sheet_of.Goals as goal
 
-pub returns-then-papers-lt-TABLE : goal.returns-then-papers-lt-TABLE
-unfolding sheet_of
-returns-then-papers-lt-TABLE c = rw (lt-ltb _ 4096 c.if-papers-lt-TABLE.true)
-
 pub returns : goal.returns
-returns c = sheet_part _ _ c.if-papers-lt-TABLE.false c.part.ensures
+returns c =
+    let behind = c.in-Some.ensures.lookup.0 in sheet_part _ _ behind.0 behind.2 c.used-k.ensures.same

@@ -1,0 +1,16 @@
+-- What is held of the answers: the characters that are not yet written out, in a room of a fixed size.
+use Rattle.std.specs.Prelude.{ℕ, cond, List, [], ◌∷◌, ◌++◌, ltb, length}
+
+pub record Held : Type 0 where
+  pub size : ℕ
+  pub text : List ℕ
+
+-- all is written out
+abbrev pub nothing_held : ℕ → Held
+nothing_held n = record { size = n; text = [] }
+
+-- one character more; a full room is written out first, and a room of no size holds nothing
+unfoldable pub with_character : Held → ℕ → Held
+with_character o c =
+    cond (ltb (length o.text) o.size) (record { size = o.size; text = o.text ++ c ∷ [] })
+    (cond (ltb 0 o.size) (record { size = o.size; text = c ∷ [] }) (nothing_held o.size))
