@@ -64,6 +64,7 @@ fn bits_formed(p: PlainRegisters) -> bool
     (p.drawing.gd < 2) & (p.video.display < 2) & (p.video.vsync < 2) & (p.pen.set < 2)
 }
 
+#[tactic(auto, unfolding(plain::specs::Form::plain_form_b))]
 pub fn formed(p: PlainRegisters) -> bool
     ensures { result ≡ plain_form_b p }
 {
@@ -177,15 +178,8 @@ fn numbers_fit(p: PlainRegisters) -> bool
 pub fn fits(p: PlainRegisters) -> bool
     ensures { result ≡ (plain_form_b p && sound_b (from_plain p)) }
 {
-    if !numbers_fit(p) {
-        return false;
-    }
-    if !command_formed(p.progress.command, p.progress.transfer) {
-        return false;
-    }
-    if !work_fits(p) {
-        return false;
-    }
-    let mode = numbers::mode_of(p.mode);
-    registers::buffer_fits(mode, p.buffer.into())
+    numbers_fit(p)
+        && command_formed(p.progress.command, p.progress.transfer)
+        && work_fits(p)
+        && registers::buffer_fits(numbers::mode_of(p.mode), p.buffer.into())
 }
