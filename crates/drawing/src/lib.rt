@@ -23,9 +23,9 @@ fn refuse(number: u8, first: u32, second: u32, r: Registers) -> Drawn
     ensures { result ≡ refusal number first second r }
 {
     Drawn {
-        number: number,
-        first: first,
-        second: second,
+        number,
+        first,
+        second,
         units: 0,
         earlier: 0,
         regs: r,
@@ -55,9 +55,7 @@ pub fn draw_sheet(
     if !registers::sound(r) {
         return refuse(1, 0, 0, r);
     }
-    let board = r.board;
-    let wiring = board.wiring;
-    if !units::length_right(wiring, mem.len()) {
+    if !units::length_right(r.board.wiring, mem.len()) {
         return refuse(2, 0, 0, r);
     }
     if larger(p, h, mem.len()) {
@@ -70,13 +68,12 @@ pub fn draw_sheet(
     let w = finishing::finish(r, mem);
     let n = a.first as usize;
     let q = lists::send_all(w.regs, &entries[..n], mem);
-    let regs = q.regs;
     Drawn {
         number: 0,
         first: a.first,
         second: a.second,
         units: q.units,
         earlier: w.units,
-        regs: regs,
+        regs: q.regs,
     }
 }
