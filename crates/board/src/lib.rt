@@ -19,21 +19,16 @@ pub struct Report {
     pub why: u8,
 }
 
-// The registers of a run's answer.
-fn regs_of(d: Ran) -> Registers
-    ensures { result ≡ d.regs }
-{
-    d.regs
-}
-
 // A run's answer without its registers.
-fn report_of(d: Ran) -> Report
-    ensures { result ≡ report_of d }
-{
-    Report {
-        number: d.number,
-        count: d.count,
-        why: d.why,
+impl From<Ran> for Report {
+    ghost from_gives = { λ d q. q ≡ report_of d };
+
+    fn from(d: Ran) -> Report {
+        Report {
+            number: d.number,
+            count: d.count,
+            why: d.why,
+        }
     }
 }
 
@@ -42,8 +37,8 @@ pub fn board_run(r: &mut Registers, mem: &mut [u16], budget: u32) -> Report
     ensures { report result r.new mem.new ≡ run_done budget (state r.old mem.old) }
 {
     let done = units::run(*r, mem, budget);
-    *r = regs_of(done);
-    report_of(done)
+    *r = done.regs;
+    done.into()
 }
 
 // What a list of entries answers: a number of refusal, how many entries were taken, and the units of their runs.
@@ -54,21 +49,16 @@ pub struct Tally {
     pub units: u64,
 }
 
-// The registers of a list's answer.
-fn regs_of_sent(d: Listed) -> Registers
-    ensures { result ≡ d.regs }
-{
-    d.regs
-}
-
 // A list's answer without its registers.
-fn tally_of(d: Listed) -> Tally
-    ensures { result ≡ tally_of d }
-{
-    Tally {
-        number: d.number,
-        taken: d.taken,
-        units: d.units,
+impl From<Listed> for Tally {
+    ghost from_gives = { λ d q. q ≡ tally_of d };
+
+    fn from(d: Listed) -> Tally {
+        Tally {
+            number: d.number,
+            taken: d.taken,
+            units: d.units,
+        }
     }
 }
 
@@ -78,6 +68,6 @@ pub fn board_send(r: &mut Registers, entries: &[u16], mem: &mut [u16]) -> Tally
         ≡ list_sent (state r.old mem.old) entries.now }
 {
     let done = lists::send_all(*r, entries, mem);
-    *r = regs_of_sent(done);
-    tally_of(done)
+    *r = done.regs;
+    done.into()
 }

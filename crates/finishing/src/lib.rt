@@ -14,24 +14,22 @@ pub struct Sent {
     pub units: u64,
 }
 
+// So many runs are more than anything takes.
+const MOST_RUNS: u32 = 272;
+
 // The controller is run until a run does not say that its budget is spent: what was waiting or in progress is finished.
 pub fn finish(r: Registers, mem: &mut [u16]) -> Sent
     ensures { outcome result mem.new ≡ finished (state r mem.old) }
 {
-    let mut s = r;
+    let mut regs = r;
     let mut units: u64 = 0;
-    let mut left: u32 = 272;
-    while 0 < left {
-        let q = units::run(s, mem, 4294967295);
+    for done in 0..MOST_RUNS {
+        let q = units::run(regs, mem, u32::MAX);
         units += q.count as u64;
-        s = q.regs;
-        left -= 1;
+        regs = q.regs;
         if q.why != 1 {
-            left = 0;
+            break;
         }
     }
-    Sent {
-        regs: s,
-        units: units,
-    }
+    Sent { regs, units }
 }

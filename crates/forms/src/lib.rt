@@ -2,12 +2,12 @@
 #![tactic(auto)]
 
 ghost use Rattle.std.specs.Prelude.{◌≡◌, ◌&&◌};
-ghost use Rattle.registers.specs.Sound.{place_b, work_b, sound_b};
+ghost use Rattle.registers.specs.Sound.{sound_b};
 ghost use Rattle.plain.specs.Form.{command_form_b, no_figure_b, no_arc_b, no_character_b, no_reading_b, work_form_b, bits_b, plain_form_b};
 ghost use Rattle.plain.specs.Mirror.{from_plain};
-ghost use Rattle.forms.specs.Fit.{nothing_b, figure_b, character_b, read_b, arc_b, in_progress_b, numbers_b};
+ghost use Rattle.forms.specs.Fit.{placed_b, nothing_b, figure_b, character_b, read_b, arc_b, in_progress_b, numbers_b};
 
-use plain::{PlainRegisters, PlainWork, numbers, parts};
+use plain::{PlainRegisters, PlainWork, numbers};
 use registers::{Drawing, Mode, Running, Work};
 
 fn command_formed(n: u8, transfer: u8) -> bool
@@ -64,6 +64,7 @@ fn bits_formed(p: PlainRegisters) -> bool
     (p.drawing.gd < 2) & (p.video.display < 2) & (p.video.vsync < 2) & (p.pen.set < 2)
 }
 
+#[tactic(auto, unfolding(plain::specs::Form::plain_form_b))]
 pub fn formed(p: PlainRegisters) -> bool
     ensures { result ≡ plain_form_b p }
 {
@@ -74,14 +75,16 @@ pub fn formed(p: PlainRegisters) -> bool
     bits & (p.op < numbers::OPERATIONS) & (p.mode < numbers::MODES) & wiring & command & work
 }
 
-// What is in progress is inside its figure or read, and of its mode.
-fn placed(f: Drawing, zoom: u8, m: Mode, work: Work) -> bool
-    ensures { result ≡ (place_b f zoom work && work_b m work) }
+// What is in progress is inside its figure or read, and of its mode, and so many cycles of it are left.
+fn placed(f: Drawing, zoom: u8, m: Mode, left: u64, work: Work) -> bool
+    ensures { result ≡ placed_b f zoom m left work }
 {
-    registers::place_fits(f, zoom, work) & registers::work_fits(m, work)
+    registers::place_fits(f, zoom, work)
+        & registers::work_fits(m, work)
+        & (left == registers::cycles_left(f, zoom, work))
 }
 
-// Kind by kind: the fields that it has no use for are 0, it is placed, and so many cycles of it are left.
+// Kind by kind: the fields that it has no use for are 0, and it is placed.
 fn nothing_fits(w: PlainWork, left: u64) -> bool
     ensures { result ≡ nothing_b w left }
 {
@@ -93,37 +96,30 @@ fn figure_fits(w: PlainWork, f: Drawing, zoom: u8, m: Mode, left: u64) -> bool
 {
     let spare = no_arc(w) & no_character(w) & no_reading(w);
     let figure = Work::Figure { dot: w.dot, d: w.d };
-    let cycles = registers::rest_of(registers::dots_of(f) as u64, w.dot as u64);
-    let inside = placed(f, zoom, m, figure) & (left == cycles);
-    spare & inside
+    spare & placed(f, zoom, m, left, figure)
 }
 
 fn character_fits(w: PlainWork, f: Drawing, zoom: u8, m: Mode, left: u64) -> bool
     ensures { result ≡ character_b w f zoom m left }
 {
     let spare = no_figure(w) & no_arc(w) & no_reading(w);
-    let start = parts::cursor_of(w.start);
     let character = Work::Character {
         row: w.row,
         column: w.column,
-        start: start,
+        start: w.start.into(),
     };
-    let cycles = registers::character_left(f, zoom, w.row, w.column);
-    let inside = placed(f, zoom, m, character) & (left == cycles);
-    spare & inside
+    spare & placed(f, zoom, m, left, character)
 }
 
 fn read_fits(w: PlainWork, f: Drawing, zoom: u8, m: Mode, left: u64) -> bool
     ensures { result ≡ read_b w f zoom m left }
 {
     let spare = no_figure(w) & no_arc(w) & no_character(w) & (w.transfer < numbers::TRANSFERS);
-    let transfer = numbers::transfer_of(w.transfer);
     let read = Work::Reading {
         item: w.item,
-        transfer: transfer,
+        transfer: numbers::transfer_of(w.transfer),
     };
-    let inside = placed(f, zoom, m, read) & (left == 0);
-    spare & inside
+    spare & placed(f, zoom, m, left, read)
 }
 
 fn arc_fits(w: PlainWork, f: Drawing, zoom: u8, m: Mode, left: u64) -> bool
@@ -138,25 +134,22 @@ fn arc_fits(w: PlainWork, f: Drawing, zoom: u8, m: Mode, left: u64) -> bool
             d2: w.d2,
         },
     };
-    let cycles = registers::rest_of(registers::arc_cycles_of(f) as u64, w.dot as u64);
-    let inside = placed(f, zoom, m, arc) & (left == cycles);
-    spare & inside
+    spare & placed(f, zoom, m, left, arc)
 }
 
 // What is in progress is formed and placed, with its count. Nothing, asked first, needs no other part of the set.
 fn work_fits(p: PlainRegisters) -> bool
     ensures { result ≡ in_progress_b p }
 {
-    let kind = p.work.kind;
-    if kind == 0 {
-        return nothing_fits(p.work, p.remaining);
-    }
     let w = p.work;
-    let f = parts::drawing_of(p.drawing);
+    if w.kind == 0 {
+        return nothing_fits(w, p.remaining);
+    }
+    let f = Drawing::from(p.drawing);
     let zoom = p.video.zoom;
     let m = numbers::mode_of(p.mode);
     let left = p.remaining;
-    match kind {
+    match w.kind {
         1 => figure_fits(w, f, zoom, m, left),
         2 => character_fits(w, f, zoom, m, left),
         3 => read_fits(w, f, zoom, m, left),
@@ -173,8 +166,8 @@ fn numbers_fit(p: PlainRegisters) -> bool
         & (p.op < numbers::OPERATIONS)
         & (p.mode < numbers::MODES)
         & (p.board.wiring < numbers::WIRINGS);
-    let cursor = registers::cursor_fits(parts::cursor_of(p.cursor));
-    let drawing = registers::drawing_fits(parts::drawing_of(p.drawing));
+    let cursor = registers::cursor_fits(p.cursor.into());
+    let drawing = registers::drawing_fits(p.drawing.into());
     let sound = cursor
         & drawing
         & (p.pen.address < dots::ADDRESSES)
@@ -185,15 +178,8 @@ fn numbers_fit(p: PlainRegisters) -> bool
 pub fn fits(p: PlainRegisters) -> bool
     ensures { result ≡ (plain_form_b p && sound_b (from_plain p)) }
 {
-    if !numbers_fit(p) {
-        return false;
-    }
-    if !command_formed(p.progress.command, p.progress.transfer) {
-        return false;
-    }
-    if !work_fits(p) {
-        return false;
-    }
-    let mode = numbers::mode_of(p.mode);
-    registers::buffer_fits(mode, parts::buffer_of(p.buffer))
+    numbers_fit(p)
+        && command_formed(p.progress.command, p.progress.transfer)
+        && work_fits(p)
+        && registers::buffer_fits(numbers::mode_of(p.mode), p.buffer.into())
 }

@@ -11,7 +11,7 @@ ghost use Rattle.units.specs.Run.{length_b};
 ghost use Rattle.sends.specs.Sends.{listed, most_listed, list_taken, list_sent};
 ghost use Rattle.lists.specs.Quick.{begun_by, set_at, first_sent};
 
-use registers::Registers;
+use registers::{Registers, Video};
 use sends::Listed;
 use settings::{Settings, Settled};
 
@@ -19,21 +19,16 @@ use settings::{Settings, Settled};
 fn settings_of(r: Registers) -> Settings
     ensures { result ≡ settings_of r }
 {
-    let board = r.board;
-    let cursor = r.cursor;
-    let drawing = r.drawing;
-    let op = r.op;
     let ram = r.ram;
-    let progress = r.progress;
     Settings {
-        board: board,
-        cursor: cursor,
+        board: r.board,
+        cursor: r.cursor,
         pitch: r.pitch,
-        drawing: drawing,
-        op: op,
-        ram: ram,
+        drawing: r.drawing,
+        op: r.op,
+        ram,
         zoom: r.video.zoom,
-        progress: progress,
+        progress: r.progress,
     }
 }
 
@@ -41,25 +36,20 @@ fn settings_of(r: Registers) -> Settings
 fn with_settings(r: Registers, p: Settings) -> Registers
     ensures { result ≡ put_settings (put_buffer r empty_buffer) p }
 {
-    let cursor = p.cursor;
-    let drawing = p.drawing;
-    let op = p.op;
     let ram = p.ram;
-    let progress = p.progress;
-    let board = p.board;
-    let none = processor::command::no_entries();
-    let mut video = r.video;
-    video.zoom = p.zoom;
     Registers {
-        cursor: cursor,
+        cursor: p.cursor,
         pitch: p.pitch,
-        drawing: drawing,
-        op: op,
-        ram: ram,
-        video: video,
-        buffer: none,
-        progress: progress,
-        board: board,
+        drawing: p.drawing,
+        op: p.op,
+        ram,
+        video: Video {
+            zoom: p.zoom,
+            ..r.video
+        },
+        buffer: processor::command::no_entries(),
+        progress: p.progress,
+        board: p.board,
         ..r
     }
 }
@@ -68,17 +58,17 @@ fn with_settings(r: Registers, p: Settings) -> Registers
 fn begin(r: Registers, e: u16, mem: &mut [u16]) -> Listed
     ensures { listed result mem.new ≡ begun_by e (state r mem.old) }
 {
-    let none = processor::command::no_entries();
-    let mut n = r;
-    n.buffer = none;
-    let t = processor::entry_taken(n, e, mem);
-    let q = units::run_on(t, mem, 4294967294);
-    let regs = q.regs;
+    let waiting = Registers {
+        buffer: processor::command::no_entries(),
+        ..r
+    };
+    let t = processor::entry_taken(waiting, e, mem);
+    let q = units::run_on(t, mem, u32::MAX - 1);
     Listed {
         number: 0,
         taken: 1,
         units: q.count as u64 + 1,
-        regs: regs,
+        regs: q.regs,
     }
 }
 
@@ -86,13 +76,9 @@ fn begin(r: Registers, e: u16, mem: &mut [u16]) -> Listed
 fn set_at(r: Registers, e: u16, entries: &[u16], k: usize, mem: &mut [u16]) -> Settled
     ensures { settled result mem.new ≡ set_at e (drop k entries.now) (state r mem.old) }
 {
-    let mode = r.mode;
-    let work = r.work;
-    let sync = r.video.sync;
-    let first = sync[0];
     let p = settings_of(r);
-    if sends::at_once(mode, work, r.buffer.count, e) {
-        return settings::settle(first, p, entries, k, mem);
+    if sends::at_once(r.mode, r.work, r.buffer.count, e) {
+        return settings::settle(r.video.sync[0], p, entries, k, mem);
     }
     Settled {
         settings: p,
@@ -104,9 +90,7 @@ fn set_at(r: Registers, e: u16, entries: &[u16], k: usize, mem: &mut [u16]) -> S
 fn send_first(r: Registers, e: u16, mem: &mut [u16]) -> Listed
     ensures { listed result mem.new ≡ first_sent e (state r mem.old) }
 {
-    let mode = r.mode;
-    let work = r.work;
-    if sends::at_once(mode, work, r.buffer.count, e) {
+    if sends::at_once(r.mode, r.work, r.buffer.count, e) {
         return begin(r, e, mem);
     }
     sends::send_one(r, e, mem)
@@ -133,7 +117,7 @@ fn send_on(r: Registers, entries: &[u16], mem: &mut [u16]) -> Listed
                 return Listed {
                     number: q.number,
                     taken: k as u64,
-                    units: units,
+                    units,
                     regs: s,
                 };
             }
@@ -145,19 +129,19 @@ fn send_on(r: Registers, entries: &[u16], mem: &mut [u16]) -> Listed
     Listed {
         number: 0,
         taken: k as u64,
-        units: units,
+        units,
         regs: s,
     }
 }
+
+// At most so many entries of a list are looked at.
+const MOST_LISTED: usize = 4294967295;
 
 // How many entries of a list are looked at.
 fn looked_at(all: usize) -> usize
     ensures { result ≡ min most_listed all }
 {
-    if all < 4294967295 {
-        return all;
-    }
-    4294967295
+    all.min(MOST_LISTED)
 }
 
 // A list of entries: the run's refusals 1 and 2, else the entries.
@@ -172,9 +156,7 @@ pub fn send_all(r: Registers, entries: &[u16], mem: &mut [u16]) -> Listed
             regs: r,
         };
     }
-    let board = r.board;
-    let wiring = board.wiring;
-    if !units::length_right(wiring, mem.len()) {
+    if !units::length_right(r.board.wiring, mem.len()) {
         return Listed {
             number: 2,
             taken: 0,

@@ -19,6 +19,7 @@ ghost use Rattle.mirror.specs.Asked.{delivered, sent_on, sent_plain, tally_of, t
 
 use bus::PlainAnswer;
 use plain::PlainRegisters;
+use ports::Answer;
 use sends::Listed;
 use units::Ran;
 
@@ -89,27 +90,65 @@ pub struct PlainCost {
 }
 
 // A run's answer and a list's, in plain numbers.
-fn ran_plain(d: Ran) -> PlainRan
-    ensures { result ≡ ran_plain d }
-{
-    let regs = plain::convert::to_plain(d.regs);
-    PlainRan {
-        number: d.number,
-        count: d.count,
-        why: d.why,
-        regs: regs,
+impl From<Ran> for PlainRan {
+    ghost from_gives = { λ d q. q ≡ ran_plain d };
+
+    fn from(d: Ran) -> PlainRan {
+        PlainRan {
+            number: d.number,
+            count: d.count,
+            why: d.why,
+            regs: d.regs.into(),
+        }
     }
 }
 
-fn sent_plain(d: Listed) -> PlainSent
-    ensures { result ≡ sent_plain d }
-{
-    let regs = plain::convert::to_plain(d.regs);
-    PlainSent {
-        number: d.number,
-        taken: d.taken,
-        units: d.units,
-        regs: regs,
+impl From<Listed> for PlainSent {
+    ghost from_gives = { λ d q. q ≡ sent_plain d };
+
+    fn from(d: Listed) -> PlainSent {
+        PlainSent {
+            number: d.number,
+            taken: d.taken,
+            units: d.units,
+            regs: d.regs.into(),
+        }
+    }
+}
+
+// Each without its registers, and a port's.
+impl From<PlainAnswer> for PlainReply {
+    ghost from_gives = { λ d q. q ≡ reply_of d };
+
+    fn from(d: PlainAnswer) -> PlainReply {
+        PlainReply {
+            number: d.number,
+            value: d.value,
+        }
+    }
+}
+
+impl From<PlainRan> for PlainReport {
+    ghost from_gives = { λ d q. q ≡ report_of d };
+
+    fn from(d: PlainRan) -> PlainReport {
+        PlainReport {
+            number: d.number,
+            count: d.count,
+            why: d.why,
+        }
+    }
+}
+
+impl From<PlainSent> for PlainTally {
+    ghost from_gives = { λ d q. q ≡ tally_of d };
+
+    fn from(d: PlainSent) -> PlainTally {
+        PlainTally {
+            number: d.number,
+            taken: d.taken,
+            units: d.units,
+        }
     }
 }
 
@@ -117,7 +156,17 @@ fn sent_plain(d: Listed) -> PlainSent
 pub fn kranichseil_fresh() -> PlainRegisters
     ensures { result ≡ to_plain fresh_set }
 {
-    plain::convert::to_plain(registers::fresh())
+    registers::fresh().into()
+}
+
+// What a port answers that was asked with a set; what is no register set is refused.
+fn asked(p: PlainRegisters, a: Answer) -> PlainAnswer
+    ensures { result ≡ asked p a }
+{
+    if forms::formed(p) {
+        return a.into();
+    }
+    bus::refuse(p)
 }
 
 // A byte to the command port.
@@ -131,57 +180,28 @@ pub fn kranichseil_command(r: PlainRegisters, byte: u8) -> PlainAnswer
 pub fn kranichseil_parameter(r: PlainRegisters, byte: u8) -> PlainAnswer
     ensures { result ≡ asked r (parameter_written (from_plain r) byte) }
 {
-    if !forms::formed(r) {
-        return bus::refuse(r);
-    }
-    bus::answer_plain(ports::write_parameter(plain::convert::from_plain(r), byte))
+    asked(r, ports::write_parameter(r.into(), byte))
 }
 
 // A byte is read.
 pub fn kranichseil_read(r: PlainRegisters) -> PlainAnswer
     ensures { result ≡ asked r (byte_read (from_plain r)) }
 {
-    if !forms::formed(r) {
-        return bus::refuse(r);
-    }
-    bus::answer_plain(ports::read_byte(plain::convert::from_plain(r)))
+    asked(r, ports::read_byte(r.into()))
 }
 
 // The status is read.
 pub fn kranichseil_status(r: PlainRegisters) -> PlainAnswer
     ensures { result ≡ asked r (status_read (from_plain r)) }
 {
-    if !forms::formed(r) {
-        return bus::refuse(r);
-    }
-    bus::answer_plain(ports::read_status(plain::convert::from_plain(r)))
+    asked(r, ports::read_status(r.into()))
 }
 
 // A light-pen address is posted.
 pub fn kranichseil_pen(r: PlainRegisters, address: u32) -> PlainAnswer
     ensures { result ≡ asked r (pen_posted (from_plain r) address) }
 {
-    if !forms::formed(r) {
-        return bus::refuse(r);
-    }
-    bus::answer_plain(ports::post_pen(plain::convert::from_plain(r), address))
-}
-
-// The registers of a port's answer.
-fn answer_regs(d: PlainAnswer) -> PlainRegisters
-    ensures { result ≡ d.regs }
-{
-    d.regs
-}
-
-// A port's answer without its registers.
-fn reply_of(d: PlainAnswer) -> PlainReply
-    ensures { result ≡ reply_of d }
-{
-    PlainReply {
-        number: d.number,
-        value: d.value,
-    }
+    asked(r, ports::post_pen(r.into(), address))
 }
 
 // A byte to a port of the registers where they stand.
@@ -189,8 +209,8 @@ pub fn kranichseil_board_write(r: &mut PlainRegisters, entry: u16) -> PlainReply
     ensures { replied result r.new ≡ asked r.old (written (from_plain r.old) entry) }
 {
     let done = bus::write_plain(*r, entry);
-    *r = answer_regs(done);
-    reply_of(done)
+    *r = done.regs;
+    done.into()
 }
 
 // A byte from a port of the registers where they stand.
@@ -198,8 +218,8 @@ pub fn kranichseil_board_read(r: &mut PlainRegisters, port: u8) -> PlainReply
     ensures { replied result r.new ≡ asked r.old (read_from port (from_plain r.old)) }
 {
     let done = bus::read_plain(*r, port);
-    *r = answer_regs(done);
-    reply_of(done)
+    *r = done.regs;
+    done.into()
 }
 
 // The run, by value.
@@ -214,25 +234,7 @@ pub fn kranichseil_run(r: PlainRegisters, mem: &mut [u16], budget: u32) -> Plain
             regs: r,
         };
     }
-    ran_plain(units::run(plain::convert::from_plain(r), mem, budget))
-}
-
-// The registers of a run's answer.
-fn regs_of(d: PlainRan) -> PlainRegisters
-    ensures { result ≡ d.regs }
-{
-    d.regs
-}
-
-// A run's answer without its registers.
-fn report_of(d: PlainRan) -> PlainReport
-    ensures { result ≡ report_of d }
-{
-    PlainReport {
-        number: d.number,
-        count: d.count,
-        why: d.why,
-    }
+    units::run(r.into(), mem, budget).into()
 }
 
 // The run on the registers where they stand.
@@ -241,8 +243,8 @@ pub fn kranichseil_board_run(r: &mut PlainRegisters, mem: &mut [u16], budget: u3
         ≡ ran_on r.old mem.old (run_done budget (state (from_plain r.old) mem.old)) }
 {
     let done = kranichseil_run(*r, mem, budget);
-    *r = regs_of(done);
-    report_of(done)
+    *r = done.regs;
+    done.into()
 }
 
 // A list of entries, by value.
@@ -258,25 +260,7 @@ fn send_plain(p: PlainRegisters, entries: &[u16], mem: &mut [u16]) -> PlainSent
             regs: p,
         };
     }
-    sent_plain(lists::send_all(plain::convert::from_plain(p), entries, mem))
-}
-
-// The registers of a list's answer.
-fn sent_regs(d: PlainSent) -> PlainRegisters
-    ensures { result ≡ d.regs }
-{
-    d.regs
-}
-
-// A list's answer without its registers.
-fn tally_of(d: PlainSent) -> PlainTally
-    ensures { result ≡ tally_of d }
-{
-    PlainTally {
-        number: d.number,
-        taken: d.taken,
-        units: d.units,
-    }
+    lists::send_all(p.into(), entries, mem).into()
 }
 
 // A list of entries sent to the registers where they stand.
@@ -290,8 +274,8 @@ pub fn kranichseil_board_send(
         (list_sent (state (from_plain r.old) mem.old) entries.now) }
 {
     let done = send_plain(*r, entries, mem);
-    *r = sent_regs(done);
-    tally_of(done)
+    *r = done.regs;
+    done.into()
 }
 
 // The sheet becomes entries at the output's start, for a plane of P words by H lines and a glyph table.

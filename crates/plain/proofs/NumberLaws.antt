@@ -3,12 +3,9 @@
 use Prim.Native.Nat.{ℕ, zero, suc, ◌<◌}
 use mathlib.Core.Path.{◌≡◌, refl, sym, subst}
 use mathlib.Core.Bool.{Bool, true, false}
-use mathlib.Core.List.{List, [], ◌∷◌}
 use native.Mathlib.Omega.{arith}
 use borrow.Author.Tests.{ltb-true, ltb-false, eqb-true, eqb-false, ne_eqb}
 use lib.Dec.{ltb, eqb}
-use types.Run.{OneOf, miss}
-use denote.Enum.Declared.{tag_of}
 use Rattle.dots.specs.declared.Wiring.{Wiring}
 use Rattle.dots.specs.declared.Wiring.TheVariants as wiring
 use Rattle.registers.specs.declared.Mode.{Mode}
@@ -18,35 +15,10 @@ use Rattle.registers.specs.declared.Transfer.TheVariants as transfer
 use Rattle.registers.specs.declared.Command.{Command}
 use Rattle.registers.specs.declared.Command.TheVariants.{Nothing, Reset, Vsync, Cchar, Start, Zoom, Curs, Pram, Pitch, Mask, Figs, Figd}
 use Rattle.registers.specs.declared.Command.TheVariants.{Gchrd, Curd, Lprd, Wdat, Rdat, Unknown}
-use Rattle.registers.specs.contracts.Command as C
 use Rattle.registers.proofs.BoolLaws.{false_true}
 use Rattle.plain.specs.Numbers.{wirings, bit_of, bit_number, mode_of, mode_number, wiring_of, wiring_number, transfer_of, transfer_number}
 use Rattle.plain.specs.Numbers.{command_of, command_number, command_transfer}
 use Rattle.plain.specs.Form.{command_form_b}
-
--- a command that is neither WDAT nor RDAT has no transfer
-abbrev others : List ℕ
-others = 0 ∷ 1 ∷ 2 ∷ 3 ∷ 4 ∷ 5 ∷ 6 ∷ 7 ∷ 8 ∷ 9 ∷ 10 ∷ 11 ∷ 12 ∷ 13 ∷ 14 ∷ 17 ∷ []
-
-pub no_transfer : (c : Command) → OneOf others (tag_of C.the_type c) → 0 ≡ command_transfer c
-no_transfer Nothing h = refl
-no_transfer Reset h = refl
-no_transfer Vsync h = refl
-no_transfer Cchar h = refl
-no_transfer Start h = refl
-no_transfer Zoom h = refl
-no_transfer Curs h = refl
-no_transfer Pram h = refl
-no_transfer Pitch h = refl
-no_transfer Mask h = refl
-no_transfer Figs h = refl
-no_transfer Figd h = refl
-no_transfer Gchrd h = refl
-no_transfer Curd h = refl
-no_transfer Lprd h = refl
-no_transfer (Wdat t) h = absurd (miss others 15 tt h)
-no_transfer (Rdat t) h = absurd (miss others 16 tt h)
-no_transfer Unknown h = refl
 
 -- ---- a case, its number, the case
 pub bit_back : (t : Bool) → bit_of (bit_number t) ≡ t

@@ -42,10 +42,7 @@ pub fn bit_of(n: u8) -> bool
 pub fn bit_number(t: bool) -> u8
     ensures { result ≡ bit_number t }
 {
-    if t {
-        return 1;
-    }
-    0
+    u8::from(t)
 }
 
 pub fn mode_of(n: u8) -> Mode
@@ -160,8 +157,7 @@ pub fn command_transfer(c: Command) -> u8
     ensures { result ≡ command_transfer c }
 {
     match c {
-        Command::Wdat(t) => transfer_number(t),
-        Command::Rdat(t) => transfer_number(t),
+        Command::Wdat(t) | Command::Rdat(t) => transfer_number(t),
         _ => 0,
     }
 }

@@ -28,167 +28,194 @@ use super::{
 use dots::Cursor;
 use registers::{Board, Buffer, Drawing, Pen, Progress, Running, Video, Work};
 
-pub fn cursor_of(p: PlainCursor) -> Cursor
-    ensures { result ≡ cursor_of p }
-{
-    Cursor {
-        ead: p.ead,
-        mask: p.mask,
+impl From<PlainCursor> for Cursor {
+    ghost from_gives = { λ p c. c ≡ cursor_of p };
+
+    fn from(p: PlainCursor) -> Cursor {
+        Cursor {
+            ead: p.ead,
+            mask: p.mask,
+        }
     }
 }
 
-pub fn cursor_plain(c: Cursor) -> PlainCursor
-    ensures { result ≡ cursor_plain c }
-{
-    PlainCursor {
-        ead: c.ead,
-        mask: c.mask,
+impl From<Cursor> for PlainCursor {
+    ghost from_gives = { λ c p. p ≡ cursor_plain c };
+
+    fn from(c: Cursor) -> PlainCursor {
+        PlainCursor {
+            ead: c.ead,
+            mask: c.mask,
+        }
     }
 }
 
-pub fn drawing_of(p: PlainDrawing) -> Drawing
-    ensures { result ≡ drawing_of p }
-{
-    Drawing {
-        kind: p.kind,
-        dir: p.dir,
-        gd: numbers::bit_of(p.gd),
-        dc: p.dc,
-        d: p.d,
-        d2: p.d2,
-        d1: p.d1,
-        dm: p.dm,
+impl From<PlainDrawing> for Drawing {
+    ghost from_gives = { λ p f. f ≡ drawing_of p };
+
+    fn from(p: PlainDrawing) -> Drawing {
+        Drawing {
+            kind: p.kind,
+            dir: p.dir,
+            gd: numbers::bit_of(p.gd),
+            dc: p.dc,
+            d: p.d,
+            d2: p.d2,
+            d1: p.d1,
+            dm: p.dm,
+        }
     }
 }
 
-pub fn drawing_plain(f: Drawing) -> PlainDrawing
-    ensures { result ≡ drawing_plain f }
-{
-    PlainDrawing {
-        kind: f.kind,
-        dir: f.dir,
-        gd: numbers::bit_number(f.gd),
-        dc: f.dc,
-        d: f.d,
-        d2: f.d2,
-        d1: f.d1,
-        dm: f.dm,
+impl From<Drawing> for PlainDrawing {
+    ghost from_gives = { λ f p. p ≡ drawing_plain f };
+
+    fn from(f: Drawing) -> PlainDrawing {
+        PlainDrawing {
+            kind: f.kind,
+            dir: f.dir,
+            gd: f.gd.into(),
+            dc: f.dc,
+            d: f.d,
+            d2: f.d2,
+            d1: f.d1,
+            dm: f.dm,
+        }
     }
 }
 
-pub fn video_of(p: PlainVideo) -> Video
-    ensures { result ≡ video_of p }
-{
-    let sync = p.sync;
-    let cchar = p.cchar;
-    Video {
-        zoom: p.zoom,
-        display: numbers::bit_of(p.display),
-        vsync: numbers::bit_of(p.vsync),
-        sync: sync,
-        cchar: cchar,
+impl From<PlainVideo> for Video {
+    ghost from_gives = { λ p v. v ≡ video_of p };
+
+    fn from(p: PlainVideo) -> Video {
+        let PlainVideo {
+            zoom,
+            display,
+            vsync,
+            sync,
+            cchar,
+        } = p;
+        Video {
+            zoom,
+            display: numbers::bit_of(display),
+            vsync: numbers::bit_of(vsync),
+            sync,
+            cchar,
+        }
     }
 }
 
-pub fn video_plain(v: Video) -> PlainVideo
-    ensures { result ≡ video_plain v }
-{
-    let sync = v.sync;
-    let cchar = v.cchar;
-    PlainVideo {
-        zoom: v.zoom,
-        display: numbers::bit_number(v.display),
-        vsync: numbers::bit_number(v.vsync),
-        sync: sync,
-        cchar: cchar,
+impl From<Video> for PlainVideo {
+    ghost from_gives = { λ v p. p ≡ video_plain v };
+
+    fn from(v: Video) -> PlainVideo {
+        let Video {
+            zoom,
+            display,
+            vsync,
+            sync,
+            cchar,
+        } = v;
+        PlainVideo {
+            zoom,
+            display: display.into(),
+            vsync: vsync.into(),
+            sync,
+            cchar,
+        }
     }
 }
 
-pub fn pen_of(p: PlainPen) -> Pen
-    ensures { result ≡ pen_of p }
-{
-    Pen {
-        address: p.address,
-        set: numbers::bit_of(p.set),
+impl From<PlainPen> for Pen {
+    ghost from_gives = { λ p q. q ≡ pen_of p };
+
+    fn from(p: PlainPen) -> Pen {
+        Pen {
+            address: p.address,
+            set: numbers::bit_of(p.set),
+        }
     }
 }
 
-pub fn pen_plain(p: Pen) -> PlainPen
-    ensures { result ≡ pen_plain p }
-{
-    PlainPen {
-        address: p.address,
-        set: numbers::bit_number(p.set),
+impl From<Pen> for PlainPen {
+    ghost from_gives = { λ p q. q ≡ pen_plain p };
+
+    fn from(p: Pen) -> PlainPen {
+        PlainPen {
+            address: p.address,
+            set: p.set.into(),
+        }
     }
 }
 
-pub fn buffer_of(p: PlainBuffer) -> Buffer
-    ensures { result ≡ buffer_of p }
-{
-    let entries = p.entries;
-    Buffer {
-        entries: entries,
-        count: p.count,
+impl From<PlainBuffer> for Buffer {
+    ghost from_gives = { λ p b. b ≡ buffer_of p };
+
+    fn from(p: PlainBuffer) -> Buffer {
+        let PlainBuffer { entries, count } = p;
+        Buffer { entries, count }
     }
 }
 
-pub fn buffer_plain(b: Buffer) -> PlainBuffer
-    ensures { result ≡ buffer_plain b }
-{
-    let entries = b.entries;
-    PlainBuffer {
-        entries: entries,
-        count: b.count,
+impl From<Buffer> for PlainBuffer {
+    ghost from_gives = { λ b p. p ≡ buffer_plain b };
+
+    fn from(b: Buffer) -> PlainBuffer {
+        let Buffer { entries, count } = b;
+        PlainBuffer { entries, count }
     }
 }
 
-pub fn progress_of(p: PlainProgress) -> Progress
-    ensures { result ≡ progress_of p }
-{
-    let command = numbers::command_of(p.command, p.transfer);
-    Progress {
-        command: command,
-        next: p.next,
-        low: p.low,
+impl From<PlainProgress> for Progress {
+    ghost from_gives = { λ p q. q ≡ progress_of p };
+
+    fn from(p: PlainProgress) -> Progress {
+        Progress {
+            command: numbers::command_of(p.command, p.transfer),
+            next: p.next,
+            low: p.low,
+        }
     }
 }
 
-pub fn progress_plain(p: Progress) -> PlainProgress
-    ensures { result ≡ progress_plain p }
-{
-    let command = p.command;
-    PlainProgress {
-        command: numbers::command_number(command),
-        transfer: numbers::command_transfer(command),
-        next: p.next,
-        low: p.low,
+impl From<Progress> for PlainProgress {
+    ghost from_gives = { λ p q. q ≡ progress_plain p };
+
+    fn from(p: Progress) -> PlainProgress {
+        PlainProgress {
+            command: numbers::command_number(p.command),
+            transfer: numbers::command_transfer(p.command),
+            next: p.next,
+            low: p.low,
+        }
     }
 }
 
-pub fn work_of(w: PlainWork) -> Work
-    ensures { result ≡ work_of w }
-{
-    let kind = w.kind;
-    match kind {
-        0 => Work::Idle,
-        1 => Work::Figure { dot: w.dot, d: w.d },
-        2 => Work::Character {
-            row: w.row,
-            column: w.column,
-            start: cursor_of(w.start),
-        },
-        3 => Work::Reading {
-            item: w.item,
-            transfer: numbers::transfer_of(w.transfer),
-        },
-        _ => Work::Arc {
-            cycle: w.dot,
-            running: Running {
-                d: w.d,
-                d1: w.d1,
-                d2: w.d2,
+impl From<PlainWork> for Work {
+    ghost from_gives = { λ p w. w ≡ work_of p };
+
+    fn from(w: PlainWork) -> Work {
+        match w.kind {
+            0 => Work::Idle,
+            1 => Work::Figure { dot: w.dot, d: w.d },
+            2 => Work::Character {
+                row: w.row,
+                column: w.column,
+                start: w.start.into(),
             },
-        },
+            3 => Work::Reading {
+                item: w.item,
+                transfer: numbers::transfer_of(w.transfer),
+            },
+            _ => Work::Arc {
+                cycle: w.dot,
+                running: Running {
+                    d: w.d,
+                    d1: w.d1,
+                    d2: w.d2,
+                },
+            },
+        }
     }
 }
 
@@ -197,13 +224,13 @@ fn plain_work(kind: u8, transfer: u8, a: Running, item: u16, dot: u32) -> PlainW
     ensures { result ≡ no_character kind transfer a item dot }
 {
     PlainWork {
-        kind: kind,
-        transfer: transfer,
+        kind,
+        transfer,
         d: a.d,
         d1: a.d1,
         d2: a.d2,
-        item: item,
-        dot: dot,
+        item,
+        dot,
         row: 0,
         column: 0,
         start: PlainCursor { ead: 0, mask: 0 },
@@ -214,47 +241,46 @@ fn plain_work(kind: u8, transfer: u8, a: Running, item: u16, dot: u32) -> PlainW
 fn d_only(d: u16) -> Running
     ensures { result ≡ d_only d }
 {
-    Running { d: d, d1: 0, d2: 0 }
+    Running { d, d1: 0, d2: 0 }
 }
 
-pub fn work_plain(w: Work) -> PlainWork
-    ensures { result ≡ work_plain w }
-{
-    match w {
-        Work::Idle => plain_work(0, 0, d_only(0), 0, 0),
-        Work::Figure { dot, d } => plain_work(1, 0, d_only(d), 0, dot),
-        Work::Arc { cycle, running } => plain_work(4, 0, running, 0, cycle),
-        Work::Character { row, column, start } => PlainWork {
-            kind: 2,
-            transfer: 0,
-            d: 0,
-            d1: 0,
-            d2: 0,
-            item: 0,
-            dot: 0,
-            row: row,
-            column: column,
-            start: cursor_plain(start),
-        },
-        Work::Reading { item, transfer } => {
-            plain_work(3, numbers::transfer_number(transfer), d_only(0), item, 0)
+impl From<Work> for PlainWork {
+    ghost from_gives = { λ w p. p ≡ work_plain w };
+
+    fn from(w: Work) -> PlainWork {
+        match w {
+            Work::Idle => plain_work(0, 0, d_only(0), 0, 0),
+            Work::Figure { dot, d } => plain_work(1, 0, d_only(d), 0, dot),
+            Work::Arc { cycle, running } => plain_work(4, 0, running, 0, cycle),
+            Work::Character { row, column, start } => PlainWork {
+                row,
+                column,
+                start: start.into(),
+                ..plain_work(2, 0, d_only(0), 0, 0)
+            },
+            Work::Reading { item, transfer } => {
+                plain_work(3, numbers::transfer_number(transfer), d_only(0), item, 0)
+            }
         }
     }
 }
 
-pub fn board_of(p: PlainBoard) -> Board
-    ensures { result ≡ board_of p }
-{
-    Board {
-        wiring: numbers::wiring_of(p.wiring),
+impl From<PlainBoard> for Board {
+    ghost from_gives = { λ p b. b ≡ board_of p };
+
+    fn from(p: PlainBoard) -> Board {
+        Board {
+            wiring: numbers::wiring_of(p.wiring),
+        }
     }
 }
 
-pub fn board_plain(b: Board) -> PlainBoard
-    ensures { result ≡ board_plain b }
-{
-    let wiring = b.wiring;
-    PlainBoard {
-        wiring: numbers::wiring_number(wiring),
+impl From<Board> for PlainBoard {
+    ghost from_gives = { λ b p. p ≡ board_plain b };
+
+    fn from(b: Board) -> PlainBoard {
+        PlainBoard {
+            wiring: numbers::wiring_number(b.wiring),
+        }
     }
 }

@@ -19,15 +19,22 @@ pub struct Replayed {
     pub regs: Registers,
 }
 
+// n units are the event UNITS_MARK + n, "until idle" is IDLE_MARK; a number below both is an entry.
+const UNITS_MARK: u64 = 4294967296;
+
+const IDLE_MARK: u64 = 8589934592;
+
+// At most so many events of a list are looked at.
+const MOST_REPLAYED: usize = 4194304;
+
 // An event that is no entry: so many units, or until idle.
 fn run_event(r: Registers, e: u64, mem: &mut [u16]) -> Sent
     ensures { runs result mem.new ≡ runs_of (state r mem.old) e }
 {
-    if e < 8589934592 {
-        let q = units::run(r, mem, (e % 4294967296) as u32);
-        let regs = q.regs;
+    if e < IDLE_MARK {
+        let q = units::run(r, mem, (e % UNITS_MARK) as u32);
         return Sent {
-            regs: regs,
+            regs: q.regs,
             units: q.count as u64,
         };
     }
@@ -41,32 +48,28 @@ fn replay_on(r: Registers, events: &[u64], mem: &mut [u16]) -> Replayed
 {
     let mut s = r;
     let mut units: u64 = 0;
-    let mut k: usize = 0;
-    while k < events.len() {
-        let e = events[k];
-        if e < 4294967296 {
+    for (k, &e) in events.iter().enumerate() {
+        if e < UNITS_MARK {
             let a = sends::at_port(s, e);
             if a.number != 0 {
                 return Replayed {
                     number: a.number,
                     taken: k as u64,
-                    units: units,
+                    units,
                     regs: s,
                 };
             }
             s = a.regs;
-            k += 1;
         } else {
             let q = run_event(s, e, mem);
             units += q.units;
             s = q.regs;
-            k += 1;
         }
     }
     Replayed {
         number: 0,
-        taken: k as u64,
-        units: units,
+        taken: events.len() as u64,
+        units,
         regs: s,
     }
 }
@@ -75,10 +78,7 @@ fn replay_on(r: Registers, events: &[u64], mem: &mut [u16]) -> Replayed
 fn looked_at(all: usize) -> usize
     ensures { result ≡ min most_replayed all }
 {
-    if all < 4194304 {
-        return all;
-    }
-    4194304
+    all.min(MOST_REPLAYED)
 }
 
 // A list of events: the run's refusals 1 and 2, else the events.
@@ -93,9 +93,7 @@ pub fn replay(r: Registers, events: &[u64], mem: &mut [u16]) -> Replayed
             regs: r,
         };
     }
-    let board = r.board;
-    let wiring = board.wiring;
-    if !units::length_right(wiring, mem.len()) {
+    if !units::length_right(r.board.wiring, mem.len()) {
         return Replayed {
             number: 2,
             taken: 0,

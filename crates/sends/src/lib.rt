@@ -35,8 +35,7 @@ pub fn at_port(r: Registers, e: u64) -> Answer
 pub fn to_port(r: Registers, e: u16) -> Registers
     ensures { result ≡ (written r e).regs }
 {
-    let a = at_port(r, e as u64);
-    a.regs
+    at_port(r, e as u64).regs
 }
 
 // One entry, and the run after it, unless its port refuses it.
@@ -52,14 +51,12 @@ pub fn send_one(r: Registers, e: u16, mem: &mut [u16]) -> Listed
             regs: r,
         };
     }
-    let q = units::run(a.regs, mem, 4294967295);
-    let units = q.count as u64;
-    let regs = q.regs;
+    let q = units::run(a.regs, mem, u32::MAX);
     Listed {
         number: 0,
         taken: 1,
-        units: units,
-        regs: regs,
+        units: q.count as u64,
+        regs: q.regs,
     }
 }
 
@@ -67,23 +64,7 @@ pub fn send_one(r: Registers, e: u16, mem: &mut [u16]) -> Listed
 fn idle(w: Work) -> bool
     ensures { result ≡ idle_b w }
 {
-    match w {
-        Work::Idle => true,
-        Work::Figure { dot: _, d: _ } => false,
-        Work::Arc {
-            cycle: _,
-            running: _,
-        } => false,
-        Work::Character {
-            row: _,
-            column: _,
-            start: _,
-        } => false,
-        Work::Reading {
-            item: _,
-            transfer: _,
-        } => false,
-    }
+    matches!(w, Work::Idle)
 }
 
 // The controller waits, and takes the entry at once.

@@ -4,6 +4,6 @@ use Rattle.lists.proofs.begin.Goals as goal
 
 pub returns : goal.returns
 returns c =
-    begins _ _ _ c.no_entries-none.ensures
+    begins _ _ _ c.no_entries.ensures
     c.entry_taken-t.ensures
     c.run_on-q.ensures

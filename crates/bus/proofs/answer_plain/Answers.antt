@@ -1,5 +1,0 @@
--- `answer_plain` is the definition.
-use Rattle.bus.proofs.answer_plain.Goals as goal
-
-pub returns : goal.returns
-returns c = rw c.to_plain-regs.ensures
