@@ -7,7 +7,7 @@ ghost use Rattle.bursts.specs.Burst.{burst, later, figure_burst, character_burst
 
 use dots::Cursor;
 use registers::Work;
-use walks::{Brush, least_of, next_row};
+use walks::{Brush, next_row};
 
 // How many units were done, where they led, and what is in progress then.
 #[derive(Clone, Copy)]
@@ -21,17 +21,14 @@ pub struct Burst {
 pub fn before_last(k: u32, all: u32) -> u32
     ensures { result ≡ all - 1 - k }
 {
-    if k < all {
-        return all - 1 - k;
-    }
-    0
+    all.saturating_sub(1).saturating_sub(k)
 }
 
 // At most so many units of the figure whose dot k is next, with its running D.
 pub fn figure(mem: &mut [u16], b: Brush, c: Cursor, k: u32, d: u16, most: u32) -> Burst
     ensures { burst result mem.new ≡ figure_burst b most k d c mem.old }
 {
-    let n = least_of(most, before_last(k, registers::dots_of(b.drawing)));
+    let n = most.min(before_last(k, registers::dots_of(b.drawing)));
     let end = k + n;
     let q = walks::figure_dots(mem, b, c, d, k, end);
     if n < most {
@@ -56,7 +53,7 @@ fn whole_rows(most: u32, columns: u32, left: u32) -> u32
     if columns == 0 {
         return 0;
     }
-    least_of(most / columns, left)
+    left.min(most / columns)
 }
 
 // A row has ended after so many units, with at most so many more: whole rows before the last, or the character's end.
@@ -109,10 +106,7 @@ pub fn character(
     ensures { burst result mem.new ≡ character_burst b (rows_ahead most row column (rows_in b) (columns_in b)) row column start c
         mem.old }
 {
-    let n = least_of(
-        most,
-        before_last(column, registers::columns_of(b.drawing, b.zoom)),
-    );
+    let n = most.min(before_last(column, registers::columns_of(b.drawing, b.zoom)));
     let end = column + n;
     let at = walks::row_dots(mem, b, row, column, c, end);
     if most <= n {

@@ -30,7 +30,7 @@ fn first(r: Registers) -> [u64; 12]
         f.dm as u64,
         8 * f.kind as u64 + f.dir as u64,
         u64::from(f.gd),
-        dots::operation_number(r.op) as u64,
+        u64::from(u8::from(r.op)),
         r.video.zoom as u64,
     ]
 }

@@ -40,7 +40,7 @@ pub struct Slope {
 fn wdat(op: Operation) -> u16
     ensures { result ≡ wdat_code + operation_number op }
 {
-    WDAT + dots::operation_number(op) as u16
+    WDAT + u16::from(u8::from(op))
 }
 
 // The word of the dot (x, y).

@@ -76,10 +76,7 @@ pub fn reset_done(r: Registers) -> Registers
 pub fn no_entries() -> Buffer
     ensures { result ≡ empty_buffer }
 {
-    Buffer {
-        entries: [0; 16],
-        count: 0,
-    }
+    Buffer::default()
 }
 
 // Read mode, with a buffer in place of the entries behind the command.
@@ -255,7 +252,7 @@ pub fn command_taken(r: Registers, byte: u8) -> Registers
         Command::Curd => turn(n, cursor_bytes(n.cursor)),
         Command::Lprd => pen_given(n),
         Command::Wdat(_) => Registers {
-            op: dots::operation_of(byte % 4),
+            op: Operation::from(byte % 4),
             ..n
         },
         Command::Rdat(t) => begin_read(n, t),

@@ -180,7 +180,7 @@ fn decode(r: Raw, glyphs: u16) -> Result<Record, Refusal>
         return Err(Refusal::Radius);
     }
     Ok(Record {
-        op: dots::operation_of(r.op),
+        op: Operation::from(r.op),
         figure: figure_of(r),
     })
 }

@@ -15,7 +15,7 @@ ghost use Rattle.registers.specs.Sound.{
 use super::sizes::{arc_cycles_of, columns_of, cycles_left, dots_of, rows_of};
 use super::{
     Buffer, COMMAND_MARK, DIRECTIONS, Drawing, ENTRY_END, FOURTEEN_BITS, KINDS, Mode, PARAMETERS,
-    PLACES, Registers, Running, Work, is_write,
+    PLACES, Registers, Running, Work,
 };
 use dots::Cursor;
 
@@ -97,8 +97,8 @@ pub fn work_fits(m: Mode, w: Work) -> bool
 {
     match w {
         Work::Idle => true,
-        Work::Figure { .. } | Work::Arc { .. } | Work::Character { .. } => is_write(m),
-        Work::Reading { .. } => !is_write(m),
+        Work::Figure { .. } | Work::Arc { .. } | Work::Character { .. } => m == Mode::Write,
+        Work::Reading { .. } => m == Mode::Read,
     }
 }
 

@@ -16,7 +16,7 @@ pub use fits::{
     buffer_fits, cursor_fits, drawing_fits, place_fits, running_fits, sound, work_fits,
 };
 pub use sizes::{
-    arc_cycles_of, character_left, columns_of, cycles_left, dots_of, factor_of, rest_of, rows_of,
+    arc_cycles_of, character_left, columns_of, cycles_left, dots_of, factor_of, rows_of,
 };
 
 // The five type bits SL, R, A, GC, L as a number: how many there are, and those of the figures.
@@ -48,7 +48,7 @@ const ENTRY_END: u16 = 512;
 pub const PARAMETERS: u8 = 16;
 
 // Which way the buffer carries bytes.
-#[derive(Clone, Copy, Default)]
+#[derive(Clone, Copy, Default, PartialEq, Eq)]
 pub enum Mode {
     #[default]
     Write,
@@ -221,14 +221,5 @@ pub fn fresh() -> Registers
         board: Board {
             wiring: Wiring::Folded,
         },
-    }
-}
-
-pub fn is_write(m: Mode) -> bool
-    ensures { result ≡ write_b m }
-{
-    match m {
-        Mode::Write => true,
-        Mode::Read => false,
     }
 }

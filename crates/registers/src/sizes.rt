@@ -50,23 +50,14 @@ pub fn columns_of(f: Drawing, zoom: u8) -> u32
     f.d as u32 * factor_of(zoom)
 }
 
-// All but those done, or none.
-pub fn rest_of(all: u64, done: u64) -> u64
-    ensures { result ≡ all - done }
-{
-    if done < all {
-        return all - done;
-    }
-    0
-}
-
 // The dots of a character from this one on.
+#[tactic(auto, unfolding(crate::specs::Left::character_left))]
 pub fn character_left(f: Drawing, zoom: u8, row: u32, column: u32) -> u64
     ensures { result ≡ character_left f zoom row column }
 {
     let rows = rows_of(f, zoom) as u64;
     let columns = columns_of(f, zoom) as u64;
-    rest_of(rows * columns, row as u64 * columns + column as u64)
+    (rows * columns).saturating_sub(row as u64 * columns + column as u64)
 }
 
 // The cycles still to come of the figure in progress.
@@ -75,8 +66,8 @@ pub fn cycles_left(f: Drawing, zoom: u8, w: Work) -> u64
 {
     match w {
         Work::Idle | Work::Reading { .. } => 0,
-        Work::Figure { dot, .. } => rest_of(dots_of(f) as u64, dot as u64),
-        Work::Arc { cycle, .. } => rest_of(arc_cycles_of(f) as u64, cycle as u64),
+        Work::Figure { dot, .. } => u64::from(dots_of(f).saturating_sub(dot)),
+        Work::Arc { cycle, .. } => u64::from(arc_cycles_of(f).saturating_sub(cycle)),
         Work::Character { row, column, .. } => character_left(f, zoom, row, column),
     }
 }

@@ -71,5 +71,5 @@ fn idle(w: Work) -> bool
 pub fn at_once(m: Mode, w: Work, held: u8, e: u16) -> bool
     ensures { result ≡ at_once_b m w held e }
 {
-    registers::is_write(m) & idle(w) & (held == 0) & (e != 256) & (e < 512)
+    (m == Mode::Write) & idle(w) & (held == 0) & (e != 256) & (e < 512)
 }

@@ -127,7 +127,7 @@ fn begin(p: Settings, byte: u8) -> Settings
             ..p
         },
         Command::Wdat(_) => Settings {
-            op: dots::operation_of(byte % 4),
+            op: Operation::from(byte % 4),
             progress,
             ..p
         },

@@ -9,7 +9,7 @@ use arcs::Moving;
 use bursts::Burst;
 use dots::Cursor;
 use registers::{Running, Work};
-use walks::{Brush, least_of};
+use walks::Brush;
 
 mod bits;
 
@@ -65,7 +65,7 @@ pub fn arc(mem: &mut [u16], b: Brush, c: Cursor, k: u32, a: Running, most: u32) 
     };
     let from = meet(b, at, k);
     let left = bursts::before_last(k, registers::arc_cycles_of(b.drawing));
-    let n = least_of(most, left);
+    let n = most.min(left);
     let first = b.drawing.dm as u32 + k % 16;
     let cycle = k + n;
     let end = first + n;

@@ -176,7 +176,7 @@ fn after_burst(r: Registers, q: Burst) -> Registers
     Registers {
         cursor: q.cursor,
         work: q.work,
-        remaining: registers::rest_of(r.remaining, n as u64),
+        remaining: r.remaining.saturating_sub(n as u64),
         ..r
     }
 }

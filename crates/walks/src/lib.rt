@@ -47,16 +47,6 @@ pub struct Reached {
     pub d: u16,
 }
 
-// The lesser of two numbers.
-pub fn least_of(a: u32, b: u32) -> u32
-    ensures { result ≡ least a b }
-{
-    if a < b {
-        return a;
-    }
-    b
-}
-
 // Dots of a figure from dot k on, before dot end: by bit addresses where the mask is one bit.
 pub fn figure_dots(mem: &mut [u16], b: Brush, c: Cursor, d: u16, k: u32, end: u32) -> Reached
     ensures { led result mem.new ≡ figure_walk b (end - k) k d c mem.old }

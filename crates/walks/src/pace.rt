@@ -50,7 +50,7 @@ fn walk_loop<P: Pace, const OP: u8>(mem: &mut [u16], s: Stroke, from: P, k: u32,
             mask: masks[(a % 16) as usize],
         };
         let pattern = figures::figure::pattern_of(s.low, s.high, i);
-        dots::cycle(mem, s.wiring, c, pattern, dots::operation_of(OP));
+        dots::cycle(mem, s.wiring, c, pattern, Operation::from(OP));
         p = p.step();
     }
     p

@@ -70,7 +70,7 @@ pub(crate) fn side_dots(mem: &mut [u16], b: Brush, at: u32, d: u16, k: u32, end:
     let mut a = at;
     let mut i = k;
     while i < end {
-        let e = crate::least_of(end, side_end(b.drawing, i));
+        let e = end.min(side_end(b.drawing, i));
         let step = stride(figures::figure::direction_at(b.drawing, i, d), b.pitch);
         a = pace::walk(mem, b.stroke(), Straight { at: a, step }, i, e).at;
         i = e;
