@@ -53,7 +53,7 @@ fn whole_rows(most: u32, columns: u32, left: u32) -> u32
     if columns == 0 {
         return 0;
     }
-    left.min(most / columns)
+    (most / columns).min(left)
 }
 
 // A row has ended after so many units, with at most so many more: whole rows before the last, or the character's end.

@@ -28,7 +28,7 @@ returns-then-not-radius_right c =
 
 pub returns : goal.returns
 returns c =
-    rw (c.figure_of.ensures, c.operation_of.ensures)
+    rw (c.figure_of.ensures, c.from.ensures)
     (stands_for _ _ (sym c.formed.ensures
     ∙ c.if-not-formed.false)
     (sym c.known.ensures ∙ c.if-not-known.false)

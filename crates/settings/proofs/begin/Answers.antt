@@ -17,7 +17,7 @@ returns-in-Wdat c =
     c.command_of-c.ensures
     c.in-Wdat.is
     (rw (
-      c.operation_of-op.ensures,
+      c.from.ensures,
       c.first_of-first.ensures,
     ))
 

@@ -3,6 +3,7 @@ use mathlib.Core.Path.{refl, sym, ◌∙◌}
 use native.Mathlib.Omega.{arith}
 use Rattle.walks.proofs.LoopLaws.{straight_walked, straight_lt}
 use Rattle.walks.proofs.BitLaws.{stride_small, side_past, side_on, sides_end}
+use Rattle.walks.proofs.LeastLaws.{least_min}
 use borrow.Author.Rules.{rules}
 use Rattle.walks.proofs.side.side_dots.Goals as goal
 
@@ -22,7 +23,7 @@ loop-i-smaller c =
       arith,
       side_past _ _ _ _ c.loop-i-test.true
           c.side_end.ensures
-          c.least_of-e.ensures,
+          (least_min _ _ c.min-e.ensures),
     )
 
 pub loop-i-preserved : goal.loop-i-preserved
@@ -36,7 +37,7 @@ loop-i-preserved c =
           c.requires.0 l.invariant.small
           c.loop-i-test.true
           c.side_end.ensures
-          c.least_of-e.ensures
+          (least_min _ _ c.min-e.ensures)
           c.direction_at.ensures c.stride-step.ensures w;
     }
 
