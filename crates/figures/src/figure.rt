@@ -1,8 +1,4 @@
 // The pattern, the steps and the running D of a figure that FIGD draws: dots along a direction, a line, a rectangle.
-#![tactic(auto,
-    unfolding(crate::specs::Figure::pattern_of, crate::specs::Figure::line_direction, crate::specs::Figure::error_after,
-        crate::specs::Figure::side_of, crate::specs::Figure::direction_at, crate::specs::Figure::running_d))]
-
 ghost use Rattle.std.specs.Prelude.{◌≡◌};
 ghost use Rattle.figures.specs.Figure.{
   pattern_of,
@@ -48,6 +44,7 @@ pub fn diagonal_of(dir: u8) -> u8
 }
 
 // A line's move: along the axis where D is negative, else along the diagonal.
+#[tactic(auto, unfolding(crate::specs::Figure::line_direction))]
 fn line_direction(dir: u8, d: u16) -> u8
     ensures { result ≡ line_direction dir d }
 {
@@ -59,6 +56,7 @@ fn line_direction(dir: u8, d: u16) -> u8
 }
 
 // .. and D after it: the 14-bit sum wraps.
+#[tactic(auto, unfolding(crate::specs::Figure::error_after))]
 fn error_after(f: Drawing, d: u16) -> u16
     ensures { result ≡ error_after f d }
 {
@@ -70,6 +68,7 @@ fn error_after(f: Drawing, d: u16) -> u16
 }
 
 // The side of a rectangle that dot k is on.
+#[tactic(auto, unfolding(crate::specs::Figure::side_of))]
 fn side_of(d: u16, d2: u16, k: u32) -> u16
     ensures { result ≡ side_of d d2 k }
 {
@@ -88,6 +87,7 @@ fn side_of(d: u16, d2: u16, k: u32) -> u16
 }
 
 // The direction of the step after dot k.
+#[tactic(auto, unfolding(crate::specs::Figure::direction_at))]
 pub fn direction_at(f: Drawing, k: u32, d: u16) -> u8
     ensures { result ≡ direction_at f k d }
 {
@@ -99,6 +99,7 @@ pub fn direction_at(f: Drawing, k: u32, d: u16) -> u8
 }
 
 // The running D after dot k.
+#[tactic(auto, unfolding(crate::specs::Figure::running_d))]
 pub fn running_d(f: Drawing, d: u16) -> u16
     ensures { result ≡ running_d f d }
 {

@@ -1,8 +1,4 @@
 // A read: RDAT's items.
-#![tactic(auto,
-    unfolding(crate::specs::Reading::room_b, crate::specs::Reading::given, crate::specs::Reading::read_on,
-        crate::specs::Reading::item_given, crate::specs::Reading::read_unit))]
-
 ghost use Rattle.std.specs.Prelude.{◌≡◌};
 ghost use Rattle.registers.specs.State.{state};
 ghost use Rattle.figures.specs.Reading.{bytes_of, room_b, given, read_on, item_given, read_unit};
@@ -20,6 +16,7 @@ fn bytes_of(t: Transfer) -> u8
 }
 
 // Whether they fit.
+#[tactic(auto, unfolding(crate::specs::Reading::room_b))]
 pub fn room(t: Transfer, b: Buffer) -> bool
     ensures { result ≡ room_b t b }
 {
@@ -27,6 +24,7 @@ pub fn room(t: Transfer, b: Buffer) -> bool
 }
 
 // The buffer with them.
+#[tactic(auto, unfolding(crate::specs::Reading::given))]
 pub fn give(t: Transfer, w: u16, b: Buffer) -> Buffer
     ensures { result ≡ given t w b }
 {
@@ -38,6 +36,7 @@ pub fn give(t: Transfer, w: u16, b: Buffer) -> Buffer
 }
 
 // The next item, or the read's end.
+#[tactic(auto, unfolding(crate::specs::Reading::read_on))]
 pub fn read_on(transfer: Transfer, i: u16, dc: u16) -> Work
     ensures { result ≡ read_on transfer i dc }
 {
@@ -52,6 +51,7 @@ pub fn read_on(transfer: Transfer, i: u16, dc: u16) -> Work
 }
 
 // The item w is given, and EAD moves a whole word.
+#[tactic(auto, unfolding(crate::specs::Reading::item_given))]
 fn item_given(r: Registers, i: u16, t: Transfer, w: u16) -> Registers
     ensures { result ≡ item_given i t w r }
 {
@@ -64,6 +64,7 @@ fn item_given(r: Registers, i: u16, t: Transfer, w: u16) -> Registers
 }
 
 // One item of a read, if its bytes fit.
+#[tactic(auto, unfolding(crate::specs::Reading::read_unit))]
 pub fn read_unit(r: Registers, i: u16, t: Transfer, mem: &mut [u16]) -> Registers
     ensures { state result mem.new ≡ read_unit i t (state r mem.old) }
 {

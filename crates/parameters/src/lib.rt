@@ -1,8 +1,5 @@
 // What a parameter byte does to a register: v is the byte, i its place among the command's parameters.
-#![tactic(auto,
-    unfolding(crate::specs::Parameter::curs_by, crate::specs::Parameter::mask_by, crate::specs::Parameter::figs_by,
-        crate::specs::Parameter::sync_by, crate::specs::Parameter::cchar_by, crate::specs::Parameter::zoom_by,
-            crate::specs::Parameter::ram_by, crate::specs::Parameter::pitch_by))]
+#![tactic(auto)]
 
 ghost use Rattle.std.specs.Prelude.{◌≡◌, ◌<◌, ◌^◌};
 ghost use Rattle.parameters.specs.Parameter.{low_byte, high_byte, high_six, curs_by, mask_by, figs_by, put_at, first_or};
@@ -20,6 +17,7 @@ fn dot_mask(n: u8) -> u16
 }
 
 // CURS.
+#[tactic(auto, unfolding(crate::specs::Parameter::curs_by))]
 pub fn curs_byte(c: Cursor, i: u8, v: u8) -> Cursor
     ensures { result ≡ curs_by i v c }
 {
@@ -60,6 +58,7 @@ fn high_six(n: u16, v: u8) -> u16
 }
 
 // MASK.
+#[tactic(auto, unfolding(crate::specs::Parameter::mask_by))]
 pub fn mask_byte(c: Cursor, i: u8, v: u8) -> Cursor
     ensures { result ≡ mask_by i v c }
 {
@@ -77,6 +76,7 @@ pub fn mask_byte(c: Cursor, i: u8, v: u8) -> Cursor
 }
 
 // FIGS.
+#[tactic(auto, unfolding(crate::specs::Parameter::figs_by))]
 pub fn figs_byte(f: Drawing, i: u8, v: u8) -> Drawing
     ensures { result ≡ figs_by i v f }
 {
@@ -149,6 +149,7 @@ pub fn first_or(i: u8, v: u8, held: u8) -> u8
 }
 
 // The sync bytes, CCHAR and ZOOM.
+#[tactic(auto, unfolding(crate::specs::Parameter::sync_by))]
 pub fn sync_byte(mut w: Video, i: u8, v: u8) -> Video
     ensures { result ≡ sync_by i v w }
 {
@@ -156,6 +157,7 @@ pub fn sync_byte(mut w: Video, i: u8, v: u8) -> Video
     w
 }
 
+#[tactic(auto, unfolding(crate::specs::Parameter::cchar_by))]
 pub fn cchar_byte(mut w: Video, i: u8, v: u8) -> Video
     ensures { result ≡ cchar_by i v w }
 {
@@ -163,6 +165,7 @@ pub fn cchar_byte(mut w: Video, i: u8, v: u8) -> Video
     w
 }
 
+#[tactic(auto, unfolding(crate::specs::Parameter::zoom_by))]
 pub fn zoom_byte(w: Video, i: u8, v: u8) -> Video
     ensures { result ≡ zoom_by i v w }
 {
@@ -173,6 +176,7 @@ pub fn zoom_byte(w: Video, i: u8, v: u8) -> Video
 }
 
 // PRAM.
+#[tactic(auto, unfolding(crate::specs::Parameter::ram_by))]
 pub fn ram_byte(mut r: Registers, i: u8, v: u8) -> Registers
     ensures { result ≡ ram_by i v r }
 {
@@ -181,6 +185,7 @@ pub fn ram_byte(mut r: Registers, i: u8, v: u8) -> Registers
 }
 
 // PITCH.
+#[tactic(auto, unfolding(crate::specs::Parameter::pitch_by))]
 pub fn pitch_byte(r: Registers, i: u8, v: u8) -> Registers
     ensures { result ≡ pitch_by i v r }
 {

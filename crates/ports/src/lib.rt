@@ -1,7 +1,5 @@
 // The two ports, the status read at one, and the light pen.
-#![tactic(auto,
-    unfolding(crate::specs::Port::queued_or3, crate::specs::Port::command_written, crate::specs::Port::parameter_written,
-        crate::specs::Port::byte_read, crate::specs::Port::status_read, crate::specs::Port::pen_posted))]
+#![tactic(auto)]
 
 ghost use Rattle.std.specs.Prelude.{◌≡◌, ◌&&◌, ◌+◌, ◌*◌, eqb, ltb};
 ghost use Rattle.registers.specs.Width.{places};
@@ -78,6 +76,7 @@ fn turn_back(r: Registers) -> Registers
 }
 
 // An entry is queued where there is room.
+#[tactic(auto, unfolding(crate::specs::Port::queued_or3))]
 fn queue_or_3(r: Registers, e: u16) -> Answer
     ensures { result ≡ queued_or3 r e }
 {
@@ -100,6 +99,7 @@ fn command_in(r: Registers, byte: u8) -> Answer
 }
 
 // A byte to the command port.
+#[tactic(auto, unfolding(crate::specs::Port::command_written))]
 pub fn write_command(r: Registers, byte: u8) -> Answer
     ensures { result ≡ command_written r byte }
 {
@@ -122,6 +122,7 @@ fn parameter_in(r: Registers, byte: u8) -> Answer
 }
 
 // A byte to the parameter port.
+#[tactic(auto, unfolding(crate::specs::Port::parameter_written))]
 pub fn write_parameter(r: Registers, byte: u8) -> Answer
     ensures { result ≡ parameter_written r byte }
 {
@@ -154,6 +155,7 @@ fn byte_in(r: Registers) -> Answer
 }
 
 // A byte is read.
+#[tactic(auto, unfolding(crate::specs::Port::byte_read))]
 pub fn read_byte(r: Registers) -> Answer
     ensures { result ≡ byte_read r }
 {
@@ -164,6 +166,7 @@ pub fn read_byte(r: Registers) -> Answer
 }
 
 // The status is read.
+#[tactic(auto, unfolding(crate::specs::Port::status_read))]
 pub fn read_status(r: Registers) -> Answer
     ensures { result ≡ status_read r }
 {
@@ -184,6 +187,7 @@ fn put_pen(r: Registers, address: u32) -> Registers
 }
 
 // A light-pen address is posted.
+#[tactic(auto, unfolding(crate::specs::Port::pen_posted))]
 pub fn post_pen(r: Registers, address: u32) -> Answer
     ensures { result ≡ pen_posted r address }
 {

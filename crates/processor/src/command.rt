@@ -1,8 +1,4 @@
 // What a command byte does.
-#![tactic(auto,
-    unfolding(crate::specs::Command::reset_done, crate::specs::Command::figure_begun, crate::specs::Command::figd_taken,
-        crate::specs::Command::character_begun, crate::specs::Command::read_begun, crate::specs::Command::command_taken))]
-
 ghost use Rattle.std.specs.Prelude.{◌≡◌, ◌≤◌, length};
 ghost use Rattle.registers.specs.Put.{put_progress};
 ghost use Rattle.registers.specs.Fresh.{fresh_drawing, empty_buffer};
@@ -51,6 +47,7 @@ pub fn first_of(byte: u8) -> u8
 }
 
 // RESET: the buffer is emptied, write mode, nothing in progress, display off.
+#[tactic(auto, unfolding(crate::specs::Command::reset_done))]
 pub fn reset_done(r: Registers) -> Registers
     ensures { result ≡ reset_done r }
 {
@@ -153,6 +150,7 @@ pub fn refresh(f: Drawing) -> Drawing
 }
 
 // FIGD for a figure that is no arc.
+#[tactic(auto, unfolding(crate::specs::Command::figure_begun))]
 fn begin_figure(r: Registers) -> Registers
     ensures { result ≡ figure_begun r }
 {
@@ -169,6 +167,7 @@ fn begin_figure(r: Registers) -> Registers
 }
 
 // FIGD.
+#[tactic(auto, unfolding(crate::specs::Command::figd_taken))]
 fn begin_figd(r: Registers) -> Registers
     ensures { result ≡ figd_taken r }
 {
@@ -179,6 +178,7 @@ fn begin_figd(r: Registers) -> Registers
 }
 
 // GCHRD.
+#[tactic(auto, unfolding(crate::specs::Command::character_begun))]
 fn begin_character(r: Registers) -> Registers
     ensures { result ≡ character_begun r }
 {
@@ -208,6 +208,7 @@ fn begin_count(r: Registers) -> Registers
 }
 
 // RDAT.
+#[tactic(auto, unfolding(crate::specs::Command::read_begun))]
 fn begin_read(r: Registers, transfer: Transfer) -> Registers
     ensures { result ≡ read_begun transfer r }
 {
@@ -222,6 +223,7 @@ fn begin_read(r: Registers, transfer: Transfer) -> Registers
 }
 
 // A command byte is taken: it ends the previous command and does what it says.
+#[tactic(auto, unfolding(crate::specs::Command::command_taken))]
 pub fn command_taken(r: Registers, byte: u8) -> Registers
     ensures { result ≡ command_taken byte r }
 {

@@ -1,18 +1,16 @@
--- The buffer: a pop moves each entry one place on; the test of the first n entries, one entry on: those passed and what is left decide; and
--- where all sixteen are below a bound, those held are.
+-- The test of the first n entries, one entry on: those passed and what is left decide; and where all sixteen are below a bound, those held
+-- are.
 use mathlib.Core.Path.{◌≡◌, refl, sym}
 use mathlib.Core.Bool.{Bool, true, false, ◌&&◌, ◌||◌, and-true}
-use mathlib.Core.List.{List, [], ◌∷◌, ◌++◌}
+use mathlib.Core.List.{List, [], ◌∷◌}
 use Prim.Native.Nat.{ℕ, zero, suc, ◌+◌, ◌-◌, ◌≤◌, ◌<◌}
 use native.Mathlib.Omega.{arith}
 use native.Mathlib.Numerals.{add-one}
 use lib.Dec.{ltb, leb}
-use lib.ListN.{length, get_or, set, take, drop, length-drop, drop_of_length-le}
-use lib.Seq.{drop-cons, drop-length, take-nil, take_all, set_at, paste}
-use borrow.Author.Tests.{leb-true, leb-false, ltb-true, lt-ltb, lt-leb}
+use lib.ListN.{length, get_or, take, drop, drop_of_length-le}
+use lib.Seq.{drop-cons, take-nil}
+use borrow.Author.Tests.{leb-true, leb-false, ltb-true, lt-ltb}
 use Rattle.registers.proofs.BoolLaws.{and_left, and_right}
-use Rattle.registers.specs.declared.Buffer.{Buffer}
-use Rattle.registers.specs.Buffer.{popped}
 use Rattle.registers.specs.Sound.{all_below}
 
 module _ (b n : ℕ) (e : List ℕ) where
@@ -84,23 +82,3 @@ bytes_enough n e p = go (leb n 16) refl
     go : (t : Bool) → leb n 16 ≡ t → t ≡ (t && all_below 512 (take 16 e) && all_below 256 (take n e))
     go true q = rw (below_wider 256 512 (take 16 e) (omega arith) p, below_fewer 256 n 16 e (leb-true n 16 q) p)
     go false q = refl
-
--- the first i places have the entries behind them; with fifteen of them and a 0 in the last, the oldest is gone
-abbrev pub moved : ℕ → List ℕ → List ℕ
-moved i e = paste e 0 (drop 1 e) i
-
-moved_all : (e : List ℕ) → length e ≡ 16 → set (moved 15 e) 15 0 ≡ drop 1 e ++ (0 ∷ [])
-moved_all e h =
-    let n = length-drop 1 e in
-    let z : drop 16 e ≡ [] = rw (← h, drop-length) in
-    rw (take_all 15 (drop 1 e) (omega arith), drop-cons e 15 0 (omega arith), z) (set_at (drop 1 e) (get_or e 15 0) [] 0 15 (omega arith))
-
-popped_more : (b : Buffer) → 1 < b.count → length b.entries ≡ 16
-    → record { entries = set (moved 15 b.entries) 15 0; count = b.count - 1 } ≡ popped b
-unfolding popped
-popped_more b h n = rw (lt-leb b.count 1 h, moved_all b.entries n)
-
--- e has them after all behind the oldest have moved by one place
-pub popped_moved : (b : Buffer) {e : List ℕ} → 1 < b.count → length b.entries ≡ 16 → e ≡ moved (length b.entries - 1) b.entries
-    → record { entries = set e 15 0; count = b.count - 1 } ≡ popped b
-popped_moved b h n f = let k : length b.entries - 1 ≡ 15 = omega arith in rw (f, k) (popped_more b h n)

@@ -2,4 +2,3 @@ pub mod BoolLaws
 pub mod BufferLaws
 pub mod FreshLaws
 pub mod HeldLaws
-pub mod SizeLaws

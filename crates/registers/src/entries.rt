@@ -1,4 +1,6 @@
 // The buffer: an entry more, the oldest, and the rest without it.
+#![tactic(auto, unfolding(crate::specs::Buffer::pushed, crate::specs::Buffer::oldest, crate::specs::Buffer::popped))]
+
 ghost use Rattle.std.specs.Prelude.{◌≡◌};
 ghost use Rattle.registers.specs.Buffer.{pushed, oldest, popped};
 

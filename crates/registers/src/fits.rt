@@ -1,4 +1,6 @@
 // The test that a register set is sound: each part within its width, the place reached inside its figure or read.
+#![tactic(auto, unfolding(crate::specs::Sound::sound_b))]
+
 ghost use Rattle.std.specs.Prelude.{◌≡◌, take};
 ghost use Rattle.registers.specs.declared.Mode.TheVariants.{Read};
 ghost use Rattle.registers.specs.Sound.{

@@ -6,6 +6,7 @@ ghost use Rattle.registers.specs.Left.{character_left, cycles_left};
 use super::{ARC_KIND, CHARACTER_KIND, Drawing, LINE_KIND, PLAIN_KIND, RECTANGLE_KIND, Work};
 
 // The dots of the figure that FIGD draws.
+#[tactic(auto, unfolding(crate::specs::Size::dots_of))]
 pub fn dots_of(f: Drawing) -> u32
     ensures { result ≡ dots_of f }
 {
@@ -17,6 +18,7 @@ pub fn dots_of(f: Drawing) -> u32
 }
 
 // The cycles of the arc that FIGD draws.
+#[tactic(auto, unfolding(crate::specs::Size::arc_cycles_of))]
 pub fn arc_cycles_of(f: Drawing) -> u32
     ensures { result ≡ arc_cycles_of f }
 {
@@ -27,6 +29,7 @@ pub fn arc_cycles_of(f: Drawing) -> u32
 }
 
 // ZOOM's low nibble + 1.
+#[tactic(auto, unfolding(crate::specs::Size::factor_of))]
 pub fn factor_of(zoom: u8) -> u32
     ensures { result ≡ factor_of zoom }
 {
@@ -34,6 +37,7 @@ pub fn factor_of(zoom: u8) -> u32
 }
 
 // The rows of the character that GCHRD draws.
+#[tactic(auto, unfolding(crate::specs::Size::rows_of, crate::specs::Size::factor_of))]
 pub fn rows_of(f: Drawing, zoom: u8) -> u32
     ensures { result ≡ rows_of f zoom }
 {
@@ -44,6 +48,7 @@ pub fn rows_of(f: Drawing, zoom: u8) -> u32
 }
 
 // The dots in each of them.
+#[tactic(auto, unfolding(crate::specs::Size::columns_of, crate::specs::Size::factor_of))]
 pub fn columns_of(f: Drawing, zoom: u8) -> u32
     ensures { result ≡ columns_of f zoom }
 {

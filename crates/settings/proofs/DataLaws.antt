@@ -35,9 +35,9 @@ none_before k s =
     let e : s.count ≡ k - k + s.count = omega arith in
     ap (numbered s) e
 
-pub one_before : (k at : ℕ) (s : Settlement) → k ≤ at → beyond (at - k) (one_more s) ≡ beyond (at + 1 - k) s
-one_before k at s h =
-    let e : at - k + suc s.count ≡ at + 1 - k + s.count = omega arith in
+pub one_before : (n : ℕ) (s : Settlement) → beyond n (one_more s) ≡ beyond (n + 1) s
+one_before n s =
+    let e : n + suc s.count ≡ n + 1 + s.count = omega arith in
     ap (numbered s) e
 
 pub all_before : (n : ℕ) (p : Settings) (m : List ℕ) {s : Settlement} → s ≡ unmoved p m

@@ -8,8 +8,8 @@ use Prim.Native.Nat.{ℕ, suc, ◌+◌, ◌-◌, ◌%◌, ◌≤◌, ◌<◌}
 use native.Mathlib.Nat.{mod-eq_of_lt}
 use native.Mathlib.Omega.{arith}
 use lib.Dec.{ltb}
-use lib.ListN.{length, get_or, drop, length-drop, drop_of_length-le}
-use lib.Seq.{drop-drop}
+use lib.ListN.{length, get_or, set, take, drop, length-drop, drop_of_length-le}
+use lib.Seq.{drop-drop, take_all}
 use borrow.Author.Tests.{lt-ltb, le-ltb, ltb-true}
 use Rattle.registers.specs.declared.Transfer.{Transfer}
 use Rattle.registers.specs.declared.Command.{Command}
@@ -20,7 +20,8 @@ use Rattle.settings.specs.declared.Settings.{Settings}
 use Rattle.settings.specs.declared.Settled.{Settled}
 use Rattle.settings.specs.Put.{set_progress}
 use Rattle.settings.specs.Settings.{Taken, taken, Settlement, settled, one_more, settable_b, command_settled, data_set, parameter_set}
-use Rattle.settings.specs.Settings.{setting_taken, settle_all, data_all}
+use Rattle.settings.specs.Settings.{setting_taken, settle_all, data_all, ram_set}
+use Rattle.parameters.specs.Parameter.{put_at}
 use Rattle.settings.proofs.DataLaws.{numbered, beyond, unmoved, none_before, here}
 
 -- ---- one entry at the head of a list
@@ -113,6 +114,10 @@ pub record Onward (sync : ℕ) (entries : List ℕ) (at : ℕ) (p : Settings) (m
   pub long : length m' ≡ length m
   pub rest : settle_all sync p (drop at entries) m ≡ beyond (at' + 1 - at) (settle_all sync p' (drop (at' + 1) entries) m')
 
+-- PRAM's sixteen bytes
+pub ram_by_length : (i v : ℕ) (l : List ℕ) → length l ≡ 16 → put_at i v l ≡ ram_set i v l
+ram_by_length i v l h = ap (λ (n : ℕ). cond (ltb i n) (set l i v) l) h
+
 -- the settings with one parameter more counted
 abbrev pub counting : Settings → ℕ → Settings
 counting p next = set_progress p (record { command = p.progress.command; next = next; low = p.progress.low })
@@ -125,11 +130,19 @@ module _ (sync : ℕ) (entries : List ℕ) (at : ℕ) (p : Settings) (m : List �
   pub settle_ended : settable_b p.progress.command e ≡ false → settle_all sync p (drop at entries) m ≡ unmoved p m
   settle_ended h = rw (here entries at more) (settle_none sync e (drop (at + 1) entries) p m h)
 
+  -- the entries from here on, as a part of all
+  from_here : (t : Transfer) {d : Settlement} → d ≡ data_all sync t p (take (length entries - at) (drop at entries)) m
+      → d ≡ data_all sync t p (drop at entries) m
+  from_here t h =
+      let n : length (drop at entries) ≤ length entries - at = omega (arith, length-drop at entries) in
+      h ∙ ap (λ (l : List ℕ). data_all sync t p l m) (take_all (length entries - at) (drop at entries) n)
+
   -- how many of WDAT's bytes there were: at least this one, at most the entries that are left
-  pub data_counted : (t : Transfer) {q : Settled} {n : List ℕ} → e < 256 → settled q n ≡ data_all sync t p (drop at entries) m
+  pub data_counted : (t : Transfer) {q : Settled} {n : List ℕ} → e < 256
+      → settled q n ≡ data_all sync t p (take (length entries - at) (drop at entries)) m
       → (0 < q.count) × (at + q.count ≤ length entries)
   data_counted t {q} h d =
-      let c : q.count ≡ (data_all sync t p (drop at entries) m).count = ap (λ (s : Settlement). s.count) d in
+      let c : q.count ≡ (data_all sync t p (drop at entries) m).count = ap (λ (s : Settlement). s.count) (from_here t d) in
       let l : length (drop at entries) ≡ length entries - at = length-drop at entries in
       let s : 0 < (data_all sync t p (drop at entries) m).count = rw (here entries at more) (some sync t e (drop (at + 1) entries) p m h) in
       (omega arith, omega (arith, few sync t (drop at entries) p m))
@@ -165,7 +178,8 @@ module _ (sync : ℕ) (entries : List ℕ) (at : ℕ) (p : Settings) (m : List �
           (ap (λ (k : Command). parameter_set sync k p.progress.next e (counting p (next_of p.progress.next)) m) (sym c)))
 
     pub by_data : (t : Transfer) {q : Settled} {n : List ℕ} → e < 256 → p.progress.command ≡ Wdat t
-        → settled q n ≡ data_all sync t p (drop at entries) m → length n ≡ length m → m' ≡ n → p' ≡ q.settings → at' ≡ at + (q.count - 1)
+        → settled q n ≡ data_all sync t p (take (length entries - at) (drop at entries)) m → length n ≡ length m → m' ≡ n → p' ≡ q.settings
+        → at' ≡ at + (q.count - 1)
         → Onward sync entries at p m at' p' m'
     by_data t {q} {n} h wdat d k f g a =
         let c = data_counted t h d in
@@ -175,7 +189,7 @@ module _ (sync : ℕ) (entries : List ℕ) (at : ℕ) (p : Settings) (m : List �
           past = omega arith;
           inside = omega (arith, c.0, c.1);
           long = ap length f ∙ k;
-          rest = stretch sync t (drop at entries) p m wdat ∙ ap (λ (x : Settlement). after sync t x (drop at entries)) (sym d)
+          rest = stretch sync t (drop at entries) p m wdat ∙ ap (λ (x : Settlement). after sync t x (drop at entries)) (sym (from_here t d))
               ∙ ap (λ (l : List ℕ). beyond q.count (settle_all sync q.settings l n)) (drop-drop q.count at entries)
               ∙ (λ i. beyond (far i) (settle_all sync (sym g i) (drop (there i) entries) (sym f i)));
         }

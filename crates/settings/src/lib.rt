@@ -1,5 +1,5 @@
 // Entries in a row that only set registers.
-#![tactic(auto)]
+#![tactic(auto, unfolding(crate::specs::Settings::settable_b))]
 
 ghost use Rattle.std.specs.Prelude.{◌≡◌, ◌%◌, drop};
 ghost use Rattle.registers.specs.declared.Command.TheVariants.{Wdat};
@@ -64,13 +64,7 @@ fn settable(held: Command, e: u16, byte: u8) -> bool
 }
 
 // WDAT's bytes, up to the next command.
-fn data_taken(
-    sync: u8,
-    from: Settings,
-    t: Transfer,
-    entries: &[u16],
-    mem: &mut [u16],
-) -> Settled
+fn data_taken(sync: u8, from: Settings, t: Transfer, entries: &[u16], mem: &mut [u16]) -> Settled
     requires { from.progress.command ≡ Wdat t }
     ensures { settled result mem.new ≡ data_all sync t from entries.now mem.old }
 {

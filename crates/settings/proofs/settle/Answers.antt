@@ -7,7 +7,8 @@ use Rattle.settings.specs.Put.{set_pitch, set_drawing, set_ram, set_zoom}
 use Rattle.settings.proofs.CommandLaws.{not_setting, settable_parameter}
 use Rattle.settings.proofs.DataLaws.{none_before, all_before}
 use Rattle.settings.proofs.SettleLaws.{Onward, counting, by_command, by_parameter, by_data, data_counted, settle_ended, settle_past}
-use Rattle.settings.proofs.SettleLaws.{turned}
+use Rattle.settings.proofs.SettleLaws.{turned, ram_by_length}
+use borrow.Author.Rules.{rules}
 use Rattle.registers.proofs.BoolLaws.{false_true}
 use borrow.Enum.Refused.{opened}
 use Rattle.settings.proofs.settle.Goals as goal
@@ -28,18 +29,18 @@ turn c =
     let ok = sym c.settable.ensures ∙ c.if-not-settable.false in
     elim c.if-e-ge256.branch [
       | then-e-ge256 w ↦ by_command _ _ _ _ _ more ok w.at-is w.if-e-ge256.true w.begin-p.ensures w.mem-is w.p-is
-      | else-e-ge256+in-Figs w ↦ by_parameter _ _ _ _ _ more ok w.at-is w.if-e-ge256.false w.in-Figs.is w.next_of-next.ensures w.mem-is
-          (w.p-is ∙ ap (set_drawing (counting p w.next_of-next.result)) w.figs_byte-p.ensures) refl
-      | else-e-ge256+in-Curs w ↦ by_parameter _ _ _ _ _ more ok w.at-is w.if-e-ge256.false w.in-Curs.is w.next_of-next.ensures w.mem-is
+      | else-e-ge256+in-Figs w ↦ by_parameter _ _ _ _ _ more ok w.at-is w.if-e-ge256.false w.in-Figs.is w.next_of-p.ensures w.mem-is
+          (w.p-is ∙ ap (set_drawing (counting p w.next_of-p.result)) w.figs_byte-p.ensures) refl
+      | else-e-ge256+in-Curs w ↦ by_parameter _ _ _ _ _ more ok w.at-is w.if-e-ge256.false w.in-Curs.is w.next_of-p.ensures w.mem-is
           (cc) refl
-      | else-e-ge256+in-Mask w ↦ by_parameter _ _ _ _ _ more ok w.at-is w.if-e-ge256.false w.in-Mask.is w.next_of-next.ensures w.mem-is
+      | else-e-ge256+in-Mask w ↦ by_parameter _ _ _ _ _ more ok w.at-is w.if-e-ge256.false w.in-Mask.is w.next_of-p.ensures w.mem-is
           (cc) refl
-      | else-e-ge256+in-Pram w ↦ by_parameter _ _ _ _ _ more ok w.at-is w.if-e-ge256.false w.in-Pram.is w.next_of-next.ensures w.mem-is
-          (w.p-is ∙ ap (set_ram (counting p w.next_of-next.result)) w.ram_put.ensures) refl
-      | else-e-ge256+in-Zoom w ↦ by_parameter _ _ _ _ _ more ok w.at-is w.if-e-ge256.false w.in-Zoom.is w.next_of-next.ensures w.mem-is
-          (w.p-is ∙ ap (set_zoom (counting p w.next_of-next.result)) w.first_or.ensures) refl
-      | else-e-ge256+in-Pitch w ↦ by_parameter _ _ _ _ _ more ok w.at-is w.if-e-ge256.false w.in-Pitch.is w.next_of-next.ensures w.mem-is
-          (w.p-is ∙ ap (set_pitch (counting p w.next_of-next.result)) w.first_or-in-Pitch.ensures) refl
+      | else-e-ge256+in-Pram w ↦ by_parameter _ _ _ _ _ more ok w.at-is w.if-e-ge256.false w.in-Pram.is w.next_of-p.ensures w.mem-is
+          (w.p-is ∙ ap (set_ram (counting p w.next_of-p.result)) (w.put_at.ensures ∙ ram_by_length _ _ p.ram (search rules))) refl
+      | else-e-ge256+in-Zoom w ↦ by_parameter _ _ _ _ _ more ok w.at-is w.if-e-ge256.false w.in-Zoom.is w.next_of-p.ensures w.mem-is
+          (w.p-is ∙ ap (set_zoom (counting p w.next_of-p.result)) w.first_or.ensures) refl
+      | else-e-ge256+in-Pitch w ↦ by_parameter _ _ _ _ _ more ok w.at-is w.if-e-ge256.false w.in-Pitch.is w.next_of-p.ensures w.mem-is
+          (w.p-is ∙ ap (set_pitch (counting p w.next_of-p.result)) w.first_or-in-Pitch.ensures) refl
       | else-e-ge256+in-Wdat w ↦ by_data _ _ _ _ _ more w.in-Wdat.t w.if-e-ge256.false w.in-Wdat.is w.data_taken-q.ensures
           w.data_taken-q.auto.mem w.mem-is w.p-is w.at-is
       | else-e-ge256+in_default w ↦
