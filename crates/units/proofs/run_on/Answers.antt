@@ -36,9 +36,9 @@ drawn c =
     let h = c.loop-n-test.true in
     let b = c.brush_of-b.ensures in
     elim c.match-s.branch [
-      in-Figure w ↦ figure_ahead c.loop-n.s _ _ _ _ _ _ h w.in-Figure.is b ((λ i. burst (w.q-is i) (w.mem-is i)) ∙ w.figure-q.ensures) |
-      in-Arc w ↦ arc_ahead c.loop-n.s _ _ _ _ _ _ h w.in-Arc.is b ((λ i. burst (w.q-is i) (w.mem-is i)) ∙ w.arc-q.ensures) |
-      in-Character w ↦ character_ahead c.loop-n.s _ _ _ _ _ _ _ h w.in-Character.is b
+      | in-Figure w ↦ figure_ahead c.loop-n.s _ _ _ _ _ _ h w.in-Figure.is b ((λ i. burst (w.q-is i) (w.mem-is i)) ∙ w.figure-q.ensures)
+      | in-Arc w ↦ arc_ahead c.loop-n.s _ _ _ _ _ _ h w.in-Arc.is b ((λ i. burst (w.q-is i) (w.mem-is i)) ∙ w.arc-q.ensures)
+      | in-Character w ↦ character_ahead c.loop-n.s _ _ _ _ _ _ _ h w.in-Character.is b
           ((λ i. burst (w.q-is i) (w.mem-is i)) ∙ w.character-q.ensures)
     ]
 
