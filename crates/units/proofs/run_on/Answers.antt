@@ -3,7 +3,7 @@
 use Rattle.bursts.specs.Burst.{burst}
 use Rattle.units.specs.Stop.{reason_number}
 use Rattle.units.proofs.AheadLaws.{Ahead, figure_ahead, arc_ahead, character_ahead, goes_ahead}
-use Rattle.units.proofs.RunLaws.{run_starts, run_ends, run_stops, run_goes_on, stop_some}
+use Rattle.units.proofs.RunLaws.{run_ends, run_stops, run_goes_on, stop_some}
 use Rattle.units.proofs.UnitLaws.{unit_by_law}
 use mathlib.Core.Path.{refl, sym, ap, ◌∙◌}
 use native.Mathlib.Omega.{arith}
