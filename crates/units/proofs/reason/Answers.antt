@@ -14,7 +14,7 @@ returns-in-Idle c = rw (c.in-Idle.is, c.waiting_reason.ensures)
 
 pub returns-in-Figure : goal.returns-in-Figure
 unfolding reason_of
-returns-in-Figure c = 
+returns-in-Figure c =
     elim c.in-Figure.is [ inl h ↦ rw h.2 | inr h ↦ elim h [ inl j ↦ rw j.2 | inr j ↦ rw j.3 ] ]
 
 pub returns-else-room : goal.returns-else-room

@@ -3,7 +3,7 @@
 use Rattle.bursts.specs.Burst.{burst}
 use Rattle.units.specs.Stop.{reason_number}
 use Rattle.units.proofs.AheadLaws.{Ahead, figure_ahead, arc_ahead, character_ahead, goes_ahead}
-use Rattle.units.proofs.RunLaws.{run_starts, run_ends, run_stops, run_goes_on, stop_some}
+use Rattle.units.proofs.RunLaws.{run_ends, run_stops, run_goes_on, stop_some}
 use Rattle.units.proofs.UnitLaws.{unit_by_law}
 use mathlib.Core.Path.{refl, sym, ap, ◌∙◌}
 use native.Mathlib.Omega.{arith}
@@ -36,9 +36,9 @@ drawn c =
     let h = c.loop-n-test.true in
     let b = c.brush_of-b.ensures in
     elim c.match-s.branch [
-      in-Figure w ↦ figure_ahead c.loop-n.s _ _ _ _ _ _ h w.in-Figure.is b ((λ i. burst (w.q-is i) (w.mem-is i)) ∙ w.figure-q.ensures) |
-      in-Arc w ↦ arc_ahead c.loop-n.s _ _ _ _ _ _ h w.in-Arc.is b ((λ i. burst (w.q-is i) (w.mem-is i)) ∙ w.arc-q.ensures) |
-      in-Character w ↦ character_ahead c.loop-n.s _ _ _ _ _ _ _ h w.in-Character.is b
+      | in-Figure w ↦ figure_ahead c.loop-n.s _ _ _ _ _ _ h w.in-Figure.is b ((λ i. burst (w.q-is i) (w.mem-is i)) ∙ w.figure-q.ensures)
+      | in-Arc w ↦ arc_ahead c.loop-n.s _ _ _ _ _ _ h w.in-Arc.is b ((λ i. burst (w.q-is i) (w.mem-is i)) ∙ w.arc-q.ensures)
+      | in-Character w ↦ character_ahead c.loop-n.s _ _ _ _ _ _ _ h w.in-Character.is b
           ((λ i. burst (w.q-is i) (w.mem-is i)) ∙ w.character-q.ensures)
     ]
 

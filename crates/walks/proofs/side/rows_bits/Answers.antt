@@ -4,7 +4,6 @@ use native.Mathlib.Omega.{arith}
 use Rattle.walks.proofs.BitLaws.{stride_small}
 use Rattle.walks.proofs.RowLaws.{next_bits}
 use Rattle.walks.proofs.WalkLaws.{rows_on, rows_end}
-use borrow.Author.Rules.{rules}
 use Rattle.walks.proofs.side.rows_bits.Goals as goal
 
 pub row_bits-s-requires : goal.row_bits-s-requires
