@@ -1,16 +1,16 @@
 -- The turns of the loops over a block's words and bytes and over the blocks: what is left to do, with what is done, is the whole. True
 -- because each
 -- definition takes one step where the loop takes one turn.
-use Rattle.std.proofs.Common.{◌≡◌, ℕ, zero, suc, ◌+◌, ◌-◌, ◌*◌, ◌%◌, ◌<◌, ◌≤◌, Bool, true, false, cond, ◌&&◌, eqb, List, sym, refl, ap, ◌∙◌}
+use Rattle.std.proofs.Common.{◌≡◌, ℕ, zero, suc, ◌+◌, ◌-◌, ◌*◌, ◌%◌, ◌<◌, ◌≤◌, Bool, true, false, cond, ◌&&◌, eqb, List, refl}
 use Rattle.std.proofs.Common.{arith, eq-eqb, ne_eqb, eqb-true}
 use mir.Val.{bool_byte}
 use borrow.Author.Tests.{lt-leb}
 use Rattle.records.specs.Raw.{byte_at, word_at}
 use Rattle.records.proofs.TestLaws.{and_both}
 use Rattle.blocks.specs.Answer.{answer, first_from}
-use Rattle.blocks.specs.Block.{sum_words, check_of, count_of, number_b, count_b, last_b, zeros_b, spare_b, unused_b, head_b, block_refusal}
+use Rattle.blocks.specs.Block.{sum_words, check_of, count_of, number_b, count_b, last_b, zeros_b, spare_b, unused_b, head_b}
 use Rattle.blocks.specs.Block.{block_answer, blocks_checked}
-use Rattle.blocks.proofs.AnswerLaws.{first_start, first_stop, first_go_on, first_end}
+use Rattle.blocks.proofs.AnswerLaws.{first_start, first_end}
 
 -- ---- the check
 module _ (s : List ℕ) (b : ℕ) where

@@ -6,7 +6,7 @@ ghost use Rattle.blocks.specs.Answer.{unless};
 ghost use Rattle.blocks.specs.Refused.{refused, checked, checked_at, answered};
 ghost use Rattle.blocks.specs.Block.{check_of, zeros_b, head_b, block_answer, blocks_checked};
 
-use records::{BLOCK_BYTES, RECORDS_AT, RECORD_BYTES, Refusal};
+use records::{BLOCK_BYTES, RECORD_BYTES, RECORDS_AT, Refusal};
 
 // The words of a block that its check sums up, and what the sum starts from.
 const WORDS: u32 = 255;
@@ -34,7 +34,11 @@ pub enum Refused {
     Length,
     Check(u16),
     Heading(u16),
-    Slot { block: u16, index: u16, why: Refusal },
+    Slot {
+        block: u16,
+        index: u16,
+        why: Refusal,
+    },
     Short(u32),
 }
 

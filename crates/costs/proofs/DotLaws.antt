@@ -1,12 +1,11 @@
 -- What the code counts is what a figure has: by cases of the figure, of a rectangle that is flat or goes round, and of a circle whose last
 -- dots coincide. Dots and figures add up over lists of figures. Last, what some figures have, by computing.
 use mathlib.Core.Path.{◌≡◌, refl, ◌∙◌}
-use mathlib.Core.Bool.{Bool, true, false, cond, ◌&&◌, ◌||◌, false≢true}
+use mathlib.Core.Bool.{Bool, true, false, cond, ◌&&◌, false≢true}
 use mathlib.Core.List.{[], ◌∷◌}
-use Prim.Native.Nat.{ℕ, ◌+◌, ◌-◌, ◌*◌, ◌≤◌}
-use native.Mathlib.Nat.{mul-le-mul}
+use Prim.Native.Nat.{ℕ, ◌+◌, ◌-◌, ◌*◌}
 use native.Mathlib.Omega.{arith}
-use lib.Dec.{eqb, ltb}
+use lib.Dec.{ltb}
 use lib.ListN.{length, length-append}
 use borrow.Author.Tests.{ltb-true, ltb-false}
 use Rattle.geometry.specs.Plane.{distance}
@@ -24,13 +23,6 @@ pub same_distance : (a b : ℕ) → apart a b ≡ distance a b
 same_distance a b = omega arith
 
 -- ---- what the code counts
-module _ (a b : ℕ) where
-  pub border_flat : {n : ℕ} → (eqb a 0 || eqb b 0) ≡ true → n ≡ line_dots a b → n ≡ border_dots a b
-  border_flat e q = q ∙ rw e
-
-  pub border_round : (eqb a 0 || eqb b 0) ≡ false → 2 * (a + b) ≡ border_dots a b
-  border_round e = rw e
-
 -- even arcs have the largest i and one dot more, odd ones the largest i, or one less where the last dots coincide
 module _ (r : ℕ) {n : ℕ} {t : Bool} (e : n ≡ largest r) (f : t ≡ coincide r) where
   counted : circle_dots r ≡ 4 * (n + 1) + 4 * (n - cond t 1 0)
@@ -62,10 +54,6 @@ module _ {a b : Point} {u v : ℕ} where
   pub rectangle_by : {f : Figure} {n : ℕ} → f ≡ Rectangle a b → u ≡ apart a.x b.x → v ≡ apart a.y b.y → n ≡ border_dots u v
       → n ≡ figure_dots f
   rectangle_by e x y q = q ∙ rw (e, x, y, same_distance a.x b.x, same_distance a.y b.y)
-
--- no square of a number of 8 bits passes 16 bits
-pub square_small : (g : ℕ) → g ≤ 255 → g * g ≤ 65025
-square_small g h = let f : g * g ≤ 255 * 255 = mul-le-mul h h in f
 
 -- ---- lists of figures
 pub dots_append : AddsUp figures_dots

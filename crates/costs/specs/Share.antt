@@ -1,6 +1,6 @@
 -- What the pass over the records counts, of a slot's figures and of all; the entries by their number alone (`translation_length` of sheets'
 -- SlotLaws).
-use Rattle.std.specs.Prelude.{ℕ, ◌+◌, List, length}
+use Rattle.std.specs.Prelude.{◌+◌, List, length}
 use Rattle.records.specs.declared.Record.{Record}
 use Rattle.sheets.specs.Slots.{sized}
 use Rattle.costs.specs.declared.Cost.{Cost}

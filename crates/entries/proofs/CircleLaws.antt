@@ -2,24 +2,17 @@
 -- has twenty entries, and an end lies at most a radius from the centre.
 use mathlib.Core.Path.{◌≡◌, refl, sym, ap, ◌∙◌}
 use mathlib.Core.Bool.{Bool, cond}
-use mathlib.Core.List.{List, [], ◌∷◌}
+use mathlib.Core.List.{List}
 use Prim.Native.Nat.{ℕ, zero, suc, ◌+◌, ◌-◌, ◌*◌, ◌%◌, ◌<◌, ◌≤◌}
 use native.Mathlib.Omega.{arith}
 use native.Mathlib.Numerals.{add-one}
-use lib.ListN.{length, get_or}
-use Rattle.circles.specs.Circle.{largest, coincide, arc_dc, end_x, end_y}
+use lib.ListN.{length}
+use Rattle.circles.specs.Circle.{largest, coincide, arc_dc, end_y}
 use Rattle.records.specs.declared.Point.{Point}
 use Rattle.entries.specs.Entries.{placed, arc_entries, arcs_from, circle_entries}
 use Rattle.entries.proofs.PutLaws.{placed_append}
 
 -- ---- where an arc starts
-module _ (c r dir : ℕ) {low : ℕ} (e : low ≡ c - r) where
-  pub end_x_is : get_or (low ∷ c ∷ c ∷ low ∷ (c + r) ∷ c ∷ c ∷ (c + r) ∷ []) dir 0 ≡ end_x c r dir
-  end_x_is = rw e
-
-  pub end_y_is : get_or (c ∷ low ∷ (c + r) ∷ c ∷ c ∷ (c + r) ∷ low ∷ c ∷ []) dir 0 ≡ end_y c r dir
-  end_y_is = rw e
-
 pub end_small : (c r dir : ℕ) → c < 65536 → r < 65536 → dir < 8 → end_y c r dir < 131072
 end_small c r zero h k l = omega arith
 end_small c r (suc zero) h k l = omega arith

@@ -2,7 +2,6 @@
 use Rattle.std.specs.Prelude.{ℕ, zero, suc, ◌+◌, ◌-◌, ◌*◌, ◌/◌, ◌%◌, min, max, List, [], ◌∷◌, ◌++◌, Bool, false, cond, ◌&&◌, ◌||◌, eqb, leb}
 use Rattle.std.specs.Prelude.{get_or}
 use Rattle.std.proofs.lemmas.List.Edits.{sets}
-use Rattle.dots.specs.declared.Operation.{Operation}
 use Rattle.dots.specs.Operation.{operation_number}
 use Rattle.circles.specs.Circle.{arc_dm, arc_dc, end_x, end_y}
 use Rattle.records.specs.declared.Point.{Point}

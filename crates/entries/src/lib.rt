@@ -186,7 +186,11 @@ fn glyph_entries(t: &[u8], p: u8, a: Point, n: u8, g: u8) -> [u16; 20]
 fn dc_of(largest: u16, coincide: bool, dir: u16) -> u16
     ensures { result ≡ largest - cond coincide (dir % 2) 0 }
 {
-    if coincide { largest.saturating_sub(dir % 2) } else { largest }
+    if coincide {
+        largest.saturating_sub(dir % 2)
+    } else {
+        largest
+    }
 }
 
 // Where the arc of a DIR starts, across.

@@ -1,18 +1,12 @@
--- One law for each way out of `decode` and of `judge`: what the tests on that way say is what `decoded_of` and `judged` ask, in their
--- order.
+-- One law for each way out of `decode`: what the tests on that way say is what `decoded_of` asks, in its order.
 use mathlib.Core.Path.{◌≡◌}
 use mathlib.Core.Bool.{true, false}
 use Prim.Native.Nat.{ℕ}
 use Rattle.std.specs.Prelude.{Ok, Err}
 use Rattle.dots.specs.Operation.{operation_of}
 use Rattle.records.specs.declared.Raw.{Raw}
-use Rattle.records.specs.declared.Room.{Room}
-use Rattle.records.specs.declared.Record.{Record}
-use Rattle.records.specs.declared.Refusal.{Refusal}
-use Rattle.records.specs.declared.Refusal.TheVariants.{Form, GlyphNumber, Factor, Radius, Outside}
-use Rattle.records.specs.Decode.{Decoded}
+use Rattle.records.specs.declared.Refusal.TheVariants.{Form, GlyphNumber, Factor, Radius}
 use Rattle.records.specs.Decode.{record_form_b, known_b, factor_b, radius_b, figure_of, decoded_of}
-use Rattle.records.specs.Inside.{inside_b, judged}
 
 module _ (r : Raw) (glyphs : ℕ) where
   pub misformed : record_form_b r ≡ false → Err Form ≡ decoded_of r glyphs
@@ -36,13 +30,3 @@ module _ (r : Raw) (glyphs : ℕ) where
       → Ok (record { op = operation_of r.op; figure = figure_of r }) ≡ decoded_of r glyphs
   unfolding decoded_of
   stands_for f k g s = rw (f, k, g, s)
-
-module _ (m : Room) {d : Decoded} where
-  pub stays_refused : {w : Refusal} → d ≡ Err w → d ≡ judged m d
-  stays_refused e = rw e
-
-  pub stays_good : {r : Record} → d ≡ Ok r → inside_b m r.figure ≡ true → Ok r ≡ judged m d
-  stays_good e i = rw (e, i)
-
-  pub falls_outside : {r : Record} → d ≡ Ok r → inside_b m r.figure ≡ false → Err Outside ≡ judged m d
-  falls_outside e i = rw (e, i)

@@ -232,7 +232,11 @@ pub fn judge(m: Room, d: Result<Record, Refusal>) -> Result<Record, Refusal>
     ensures { result ≡ judged m d }
 {
     let r = d?;
-    if inside(m, r.figure) { Ok(r) } else { Err(Refusal::Outside) }
+    if inside(m, r.figure) {
+        Ok(r)
+    } else {
+        Err(Refusal::Outside)
+    }
 }
 
 // The number of a record's refusal.

@@ -3,7 +3,7 @@
 use mathlib.Core.Path.{◌≡◌, refl, sym, ap, ◌∙◌}
 use mathlib.Core.Bool.{Bool, true, false, ◌&&◌}
 use mathlib.Core.List.{List}
-use Prim.Native.Nat.{ℕ, ◌-◌, ◌*◌, ◌/◌, ◌%◌, ◌<◌, ◌≤◌}
+use Prim.Native.Nat.{ℕ, ◌*◌, ◌/◌, ◌%◌, ◌<◌, ◌≤◌}
 use native.Mathlib.Omega.{arith}
 use lib.Dec.{eqb, leb}
 use lib.ListN.{length}
@@ -13,10 +13,10 @@ use Rattle.records.specs.Decode.{Decoded}
 use Rattle.records.specs.Refused.{number_of}
 use Rattle.records.proofs.TestLaws.{and_both}
 use Rattle.blocks.specs.declared.Answer.{Answer}
-use Rattle.blocks.specs.Answer.{answer, refusal_unless, or_else, first_from}
+use Rattle.blocks.specs.Answer.{answer, refusal_unless, or_else}
 use Rattle.blocks.specs.Block.{blocks_checked}
-use Rattle.blocks.proofs.AnswerLaws.{or_first, or_next, or_zero, first_stop}
-use Rattle.refusals.specs.Refusals.{used_b, slot_decoded, slot_refusal, slot_answer, records_checked}
+use Rattle.blocks.proofs.AnswerLaws.{or_first, or_next, or_zero}
+use Rattle.refusals.specs.Refusals.{used_b, slot_decoded, slot_refusal, records_checked}
 use Rattle.refusals.specs.Refusals.{plane_b, table_b, sheet_length_b, plane_refusal, table_refusal, length_refusal, frame_refusal}
 use Rattle.refusals.specs.Refusals.{room_of, sheet_refusal}
 

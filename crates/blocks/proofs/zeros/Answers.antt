@@ -11,7 +11,7 @@ returns-then-byte_at-ne0 c = zeros_fail _ _ _ _ c.loop-i-test.true c.byte_at.ens
     ∙ sym c.loop-i.invariant
 
 pub loop-i-preserved : goal.loop-i-preserved
-loop-i-preserved c = 
+loop-i-preserved c =
     c.loop-i.invariant ∙ zeros_go_on _ _ _ _ c.loop-i-test.true c.byte_at.ensures c.if-byte_at-ne0.false
 
 pub returns : goal.returns

@@ -1,5 +1,5 @@
 -- `cost_of` gives `cost_def`: one law of CostLaws for each way out.
-use mathlib.Core.Path.{refl, ◌∙◌}
+use mathlib.Core.Path.{refl}
 use native.Mathlib.Omega.{arith}
 use Rattle.blocks.proofs.AnswerLaws.{refused_some}
 use Rattle.refusals.proofs.RefusalLaws.{sheet_framed}

@@ -3,7 +3,7 @@ use Prim.Native.Nat.{◌+◌}
 use native.Mathlib.Omega.{arith}
 use mathlib.Core.Path.{ap, ◌∙◌}
 use lib.ListN.{length}
-use Rattle.sheets.specs.Slots.{sized, figures}
+use Rattle.sheets.specs.Slots.{sized}
 use Rattle.sheets.proofs.SlotLaws.{slot_small, slot_one, sized_append, figures_start, count_starts, count_goes_on, count_ends}
 use Rattle.costs.specs.declared.Share.{Share}
 use Rattle.costs.specs.Dots.{figures_dots}

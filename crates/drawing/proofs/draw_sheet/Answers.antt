@@ -1,5 +1,6 @@
 -- `draw_sheet` is `sheet_drawn`: one law of DrawLaws for each way out.
-use mathlib.Core.Path.{sym, ◌∙◌}
+use mathlib.Core.Path.{refl, sym, ◌∙◌}
+use Rattle.blocks.proofs.AnswerLaws.{refused_some}
 use Rattle.drawing.proofs.DrawLaws.{way_unsound, way_mislong, way_larger, way_refused, way_sent, part_fits, part_long}
 use Rattle.drawing.proofs.draw_sheet.Goals as goal
 
@@ -20,30 +21,27 @@ returns-then-larger c =
     (sym c.length_right.ensures ∙ c.if-not-length_right.false)
     (sym c.larger.ensures ∙ c.if-larger.true) c.refuse-then-larger.ensures
 
-pub returns-then-a-ne0 : goal.returns-then-a-ne0
-returns-then-a-ne0 c =
+pub returns-in-Err : goal.returns-in-Err
+returns-in-Err c =
     way_refused _ _ _ _ _ _ _ (sym c.sound.ensures
     ∙ c.if-not-sound.false)
     (sym c.length_right.ensures ∙ c.if-not-length_right.false)
-    (sym c.larger.ensures ∙ c.if-larger.false) c.translate-a.ensures
-    c.if-a-ne0.true c.refuse-then-a-ne0.ensures
+    (sym c.larger.ensures ∙ c.if-larger.false) c.in-Err.ensures
+    (refused_some _) (rw c.answer-a.ensures at c.refuse-in-Err.ensures)
 
 pub slice_bounds-send_all-end : goal.slice_bounds-send_all-end
 slice_bounds-send_all-end c =
-    part_fits _ _ _ _ _ c.translate-a.ensures
-    c.if-a-ne0.false
+    part_fits _ _ _ _ _ c.in-Ok.ensures refl
 
 pub slice_bounds-send_all-end-2 : goal.slice_bounds-send_all-end-2
 slice_bounds-send_all-end-2 c =
-    part_long _ _ _ _ _ c.translate-a.ensures
-    c.if-a-ne0.false
+    part_long _ _ _ _ _ c.in-Ok.ensures refl
 
 pub returns : goal.returns
 returns c =
     way_sent _ _ _ _ _ _ _ (sym c.sound.ensures
     ∙ c.if-not-sound.false)
     (sym c.length_right.ensures ∙ c.if-not-length_right.false)
-    (sym c.larger.ensures ∙ c.if-larger.false) c.translate-a.ensures
-    c.if-a-ne0.false
+    (sym c.larger.ensures ∙ c.if-larger.false) c.in-Ok.ensures refl
     c.finish-w.ensures
     c.send_all-q.ensures

@@ -1,5 +1,4 @@
 -- `put_from` gives `placed`: what is still to be placed, from where the loop stands, makes the same list at each turn.
-use borrow.Author.Rules.{rules}
 use mathlib.Core.Path.{refl, sym, ◌∙◌}
 use Rattle.entries.proofs.PutLaws.{put_starts, put_goes_on, put_ends}
 use Rattle.entries.proofs.put_from.Goals as goal
