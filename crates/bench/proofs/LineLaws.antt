@@ -7,6 +7,7 @@ use native.Mathlib.Omega.{arith}
 use lib.ListN.{length, take, drop, length-drop}
 use lib.Seq.{take_all}
 use borrow.Author.Tests.{lt-ltb, le-ltb}
+use Rattle.std.proofs.Common.{Option}
 use Rattle.script.specs.declared.Line.{Line}
 use Rattle.script.specs.Line.{line_of}
 use Rattle.orders.specs.declared.Order.{Order}
@@ -17,7 +18,7 @@ rest : (s : List ℕ) → take (length s - 2) (drop 2 s) ≡ drop 2 s
 rest s = take_all (length s - 2) (drop 2 s) (omega (arith, length-drop 2 s))
 
 module _ (line : List ℕ) (n : ℕ) {s : List ℕ} (part : s ≡ characters_of line n) where
-  pub asks : {l : Line} {o : Order} → l ≡ line_of s → o ≡ order_of l → o ≡ asked_for line n
+  pub asks : {l : Option Line} {o : Order} → l ≡ line_of s → o ≡ order_of l → o ≡ asked_for line n
   unfolding asked_for
   asks e f = rw (f, e, part)
 
