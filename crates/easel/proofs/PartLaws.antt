@@ -44,7 +44,8 @@ pub cost_in : (p h : ℕ) {s s' t t' : List ℕ} {c : Cost} → s ≡ s' → t �
 cost_in p h sheet table done = done ∙ rw (sheet, table)
 
 -- a part of the entries played over a part of the memory
-pub played_within_law : (r : Registers) (entries mem : List ℕ) (n words : ℕ) {s : List ℕ} {m : ℕ} {q : Sent} {o : List ℕ} → s ≡ part_of n entries
+pub played_within_law : (r : Registers) (entries mem : List ℕ) (n words : ℕ) {s : List ℕ} {m : ℕ} {q : Sent} {o : List ℕ}
+    → s ≡ part_of n entries
     → m ≡ used_of words mem → outcome q o ≡ played (state r (take m mem)) s
     → outcome q (o ++ drop m mem) ≡ played_within r (part_of n entries) mem words
 unfolding played_within
