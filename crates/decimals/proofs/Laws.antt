@@ -1,6 +1,6 @@
 -- What a loop over a text's characters knows of those still to be read.
-use Prim.Native.Nat.{ℕ, ◌+◌, ◌*◌, ◌<◌, ◌≤◌, ◌^◌}
-use mathlib.Core.Path.{◌≡◌, sym, ◌∙◌}
+use Prim.Native.Nat.{ℕ, ◌+◌, ◌*◌, ◌<◌, ◌≤◌}
+use mathlib.Core.Path.{◌≡◌, ◌∙◌}
 use mathlib.Core.List.{List}
 use lib.ListN.{length, get_or, drop, drop_of_length-le}
 use lib.Seq.{drop-cons}
@@ -10,7 +10,7 @@ use borrow.Author.Tests.{eq-eqb, ne_eqb, lt-ltb, le-ltb}
 use Rattle.std.proofs.Common.{None, Some}
 use Rattle.std.specs.Char.{digit_value}
 use Rattle.std.proofs.lemmas.Grind.{common_steps}
-use Rattle.decimals.specs.Decimal.{ten_of, decimal_from, decimal_of}
+use Rattle.decimals.specs.Decimal.{ten_of, decimal_from}
 
 -- std's digits below 10
 no_digit : (c : ℕ) → (digit_value c < 10 → ⊥) → ten_of c ≡ 10

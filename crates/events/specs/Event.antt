@@ -1,6 +1,7 @@
 -- A line of a record of the bus, in the form that `listing` writes: "C 47" and "P 28" a byte for a port, "U 5000" units to be done,
 -- "F" a picture to be sent.
-use Rattle.std.specs.Prelude.{ℕ, ◌+◌, ◌-◌, ◌*◌, zero, suc, List, [], ◌∷◌, Bool, true, cond, ltb, eqb, length, get_or, take, drop, Option, None, Some}
+use Rattle.std.specs.Prelude.{ℕ, ◌+◌, ◌-◌, ◌*◌, zero, suc, List, [], ◌∷◌, Bool, true, cond, ltb, eqb, length, get_or, take, drop, Option}
+use Rattle.std.specs.Prelude.{None, Some}
 use Rattle.decimals.specs.Decimal.{decimal_of}
 use Rattle.replaying.specs.Replay.{units_mark, idle_mark}
 use Rattle.events.specs.declared.Event.{Event}

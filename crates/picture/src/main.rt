@@ -8,15 +8,13 @@
 // open or folded; folded unless it is given. Where anything is wrong it says so in a sentence on standard error and writes nothing else.
 #![tactic(auto)]
 
-use decimals::Number;
 use dots::Wiring;
 use std::rt::{Env, Files};
-use wirings::Named;
 
 // Argument i as a number, or the usual one where it is not given.
-fn number_at(rt: &impl Env, i: usize, usual: u32) -> Number {
+fn number_at(rt: &impl Env, i: usize, usual: u32) -> Option<u32> {
     if !outside::is_given(rt, i) {
-        return Number::Is(usual);
+        return Some(usual);
     }
     let mut text = [0u8; 16];
     let n = outside::arg(rt, i, &mut text);
@@ -29,31 +27,25 @@ fn complain(text: &[u8]) {
     io::write_all(2, b"\n");
 }
 
-// How many bytes of the glyph file were read, or that there are none.
-#[derive(Clone, Copy)]
-enum Table {
-    Bad,
-    Bytes(usize),
-}
-
-// The bytes of the glyph file that argument i names at the start of a table; one more than 2,048 are read, so that a longer file is seen.
-fn read_glyphs(rt: &(impl Env + Files), i: usize, table: &mut [u8]) -> Table {
+// The bytes of the glyph file that argument i names at the start of a table, and how many, if they can be read; one more than 2,048 are
+// read, so that a longer file is seen.
+fn read_glyphs(rt: &(impl Env + Files), i: usize, table: &mut [u8]) -> Option<usize> {
     if !outside::is_given(rt, i) {
-        return Table::Bytes(0);
+        return Some(0);
     }
     let mut name = [0u8; 4096];
     let n = outside::arg(rt, i, &mut name);
     if n == 0 {
-        return Table::Bad;
+        return None;
     }
     if (n == 1) & (name[0] == b'-') {
-        return Table::Bytes(0);
+        return Some(0);
     }
     let got = outside::file(rt, &name[..n], table);
     if got == 0 {
-        return Table::Bad;
+        return None;
     }
-    Table::Bytes(got)
+    Some(got)
 }
 
 // The picture is written, by way of a room.
@@ -105,7 +97,7 @@ fn picture_in(rt: &(impl Env + Files), p: u32, h: u32, words: u32, wiring: Wirin
         return;
     }
     let mut glyphs = [0u8; 2049];
-    let Table::Bytes(read) = read_glyphs(rt, 1, &mut glyphs) else {
+    let Some(read) = read_glyphs(rt, 1, &mut glyphs) else {
         return no_glyphs();
     };
     picture_with(p, h, buffers::part(read, &glyphs), words, wiring);
@@ -132,7 +124,7 @@ fn tell(sheet: &[u8], p: u32, h: u32, glyphs: &[u8]) {
 // The sheet and the glyphs are read, and the cost is said.
 fn cost_in(rt: &(impl Env + Files), p: u32, h: u32) {
     let mut glyphs = [0u8; 2049];
-    let Table::Bytes(read) = read_glyphs(rt, 2, &mut glyphs) else {
+    let Some(read) = read_glyphs(rt, 2, &mut glyphs) else {
         return no_glyphs();
     };
     let mut sheet = [0u8; 8193];
@@ -146,10 +138,10 @@ fn cost(rt: &(impl Env + Files)) {
         complain(b"after --cost there are at most three arguments, GLYPHS P H");
         return;
     }
-    let Number::Is(p) = number_at(rt, 3, 40) else {
+    let Some(p) = number_at(rt, 3, 40) else {
         return wrong_number();
     };
-    let Number::Is(h) = number_at(rt, 4, 400) else {
+    let Some(h) = number_at(rt, 4, 400) else {
         return wrong_number();
     };
     cost_in(rt, p, h);
@@ -170,16 +162,16 @@ fn main(rt: HostRuntime) {
         complain(b"there are at most five arguments, GLYPHS P H WORDS WIRING");
         return;
     }
-    let Number::Is(p) = number_at(&rt, 2, 40) else {
+    let Some(p) = number_at(&rt, 2, 40) else {
         return wrong_number();
     };
-    let Number::Is(h) = number_at(&rt, 3, 400) else {
+    let Some(h) = number_at(&rt, 3, 400) else {
         return wrong_number();
     };
-    let Number::Is(words) = number_at(&rt, 4, 16384) else {
+    let Some(words) = number_at(&rt, 4, 16384) else {
         return wrong_number();
     };
-    let Named::Is(wiring) = wirings::wiring_at(&rt, 5) else {
+    let Some(wiring) = wirings::wiring_at(&rt, 5) else {
         return wrong_wiring();
     };
     picture_in(&rt, p, h, words, wiring);

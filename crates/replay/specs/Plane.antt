@@ -1,5 +1,5 @@
 -- What the program's arguments are refused with, in the order in which a sheet's drawing is.
-use Rattle.std.specs.Prelude.{ℕ, ◌*◌, cond, nat_lt}
+use Rattle.std.specs.Prelude.{ℕ, ◌*◌, cond, nat_lt, Option, None, Some}
 use Rattle.dots.specs.declared.Wiring.{Wiring}
 use Rattle.registers.specs.declared.Registers.{Registers}
 use Rattle.registers.specs.Fresh.{fresh_set}
@@ -9,9 +9,9 @@ use Rattle.refusals.specs.Refusals.{plane_b}
 use Rattle.replay.specs.declared.Plane.{Plane}
 
 -- "2 memory length wrong", which "depends on the wiring" (02, M-108), "11 P, H or P·H out of range", then 02's "23 a picture larger
--- than the memory"; 0 for none
-unfoldable pub plane_refused : Wiring → ℕ → ℕ → ℕ → ℕ
-plane_refused w p h words = cond (length_b w words) (cond (plane_b p h) (cond (nat_lt words (p * h)) 23 0) 11) 2
+-- than the memory"; or none
+unfoldable pub plane_refused : Wiring → ℕ → ℕ → ℕ → Option ℕ
+plane_refused w p h words = cond (length_b w words) (cond (plane_b p h) (cond (nat_lt words (p * h)) (Some 23) None) (Some 11)) (Some 2)
 
 -- the registers before the first line: fresh, but for the wiring
 abbrev pub fresh_on : Plane → Registers

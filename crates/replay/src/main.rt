@@ -7,19 +7,17 @@
 // What was refused, what was no event and how much there was of everything is said on standard error (docs/REPLAY.md).
 #![tactic(auto)]
 
-ghost use Rattle.std.specs.Prelude.{◌≡◌, ◌<◌};
+ghost use Rattle.std.specs.Prelude.{◌≡◌};
 ghost use Rattle.replay.specs.Plane.{plane_refused, fresh_on};
 
 use console::output::Output;
 use console::reader::Reader;
-use decimals::Number;
 use dots::Wiring;
 use events::Event;
 use log::Tally;
 use registers::Registers;
 use std::io::{ErrorKind, Write};
 use std::rt::Env;
-use wirings::Named;
 
 mod log;
 
@@ -39,101 +37,47 @@ pub struct Told {
     pub event: Event,
 }
 
-// A whole line is read.
-fn read(t: Tally, r: Reader, line: &[u8]) -> Told {
-    Told {
-        reader: r.past(),
-        tally: log::line(t),
-        event: events::event_of(buffers::part(r.length, line)),
-    }
-}
-
 // The next line, if one is whole; else more of the record is read, which says nothing yet.
-fn next(rt: &HostRuntime, t: Told, input: &mut [u8], line: &mut [u8]) -> Told {
-    let r = t
-        .reader
-        .next_line(rt, input, line, &mut Output::new(&mut []));
-    if r.whole {
-        return read(t.tally, r, line);
+fn next(rt: &HostRuntime, told: &mut Told, input: &mut [u8], line: &mut [u8]) {
+    let mut nobody = Output::new(&mut []);
+    let reader = told.reader.next_line(rt, input, line, &mut nobody);
+    if !reader.whole {
+        told.reader = reader;
+        told.event = Event::Nothing;
+        return;
     }
-    let y = t.tally;
-    Told {
-        reader: r,
-        tally: y,
-        event: Event::Nothing,
-    }
-}
-
-// What the line asks of the controller.
-fn asked(t: Told) -> [u64; 2] {
-    let e = t.event;
-    let y = t.tally;
-    events::asked_of(e, y.by_units)
+    told.reader = reader.past();
+    told.tally.begin_line();
+    told.event = events::event_of(buffers::part(reader.length, line));
 }
 
 // A picture is written.
-fn picture(t: Tally, plane: Plane, mem: &[u16], room: &mut [u8]) -> Tally {
-    let written = pages::write_page(mem, plane.across, plane.down, room);
-    log::picture(t, written)
-}
-
-// The line is done with.
-fn counted(t: Told, y: Tally) -> Told {
-    let r = t.reader;
-    Told {
-        reader: r,
-        tally: y,
-        event: Event::Nothing,
-    }
+fn picture(tally: &mut Tally, plane: Plane, mem: &[u16], room: &mut [u8]) {
+    tally.picture(pages::write_page(mem, plane.across, plane.down, room));
 }
 
 // What the controller answered is told, or the picture written that the line asks for.
-fn done(t: Told, number: u8, units: u64, plane: Plane, mem: &[u16], room: &mut [u8]) -> Told {
-    let e = t.event;
-    match e {
-        Event::Picture => counted(t, picture(t.tally, plane, mem, room)),
-        _ => counted(t, log::answered(t.tally, e, number, units)),
+fn done(told: &mut Told, number: u8, units: u64, plane: Plane, mem: &[u16], room: &mut [u8]) {
+    match told.event {
+        Event::Picture => picture(&mut told.tally, plane, mem, room),
+        event => told.tally.answered(event, number, units),
     }
 }
 
 // A picture at the end where there was none; then what was counted.
-fn ended(t: Tally, plane: Plane, mem: &[u16], room: &mut [u8]) {
-    if (t.pictures == 0) & !t.broken {
-        log::ended(picture(t, plane, mem, room));
-        return;
+fn ended(tally: &mut Tally, plane: Plane, mem: &[u16], room: &mut [u8]) {
+    if (tally.pictures == 0) & !tally.broken {
+        picture(tally, plane, mem, room);
     }
-    log::ended(t);
-}
-
-// The record's last line is done, or the output takes no more.
-fn over(t: Told) -> bool {
-    let y = t.tally;
-    t.reader.ended | y.broken
-}
-
-// The turns that are left: none where it is over.
-fn left_after(t: Told, left: u64) -> u64
-    requires { 0 < left }
-    ensures { result < left }
-{
-    if over(t) { 0 } else { left - 1 }
-}
-
-// Before the first line.
-fn start() -> Told {
-    Told {
-        reader: Reader::start(),
-        tally: log::start(),
-        event: Event::Nothing,
-    }
+    tally.ended();
 }
 
 // The registers before the first line.
+#[tactic(auto, unfolding(crate::specs::Plane::fresh_on))]
 fn fresh_on(plane: Plane) -> Registers
     ensures { result ≡ fresh_on plane }
 {
-    let wiring = plane.wiring;
-    wirings::wired(registers::fresh(), wiring)
+    wirings::wired(registers::fresh(), plane.wiring)
 }
 
 // Whether standard error is a pipe that nobody reads any more. A newline is tried, where writing failed before.
@@ -145,15 +89,14 @@ fn is_gone(rt: &HostRuntime) -> bool {
 }
 
 // Where a line could not be spoken of, since nobody listens, the record ends.
-fn heard(rt: &HostRuntime, t: Told) -> Told {
-    let mut n = t;
-    if t.tally.unsaid {
-        n.tally = log::unheard(t.tally, is_gone(rt));
+fn heard(rt: &HostRuntime, tally: &mut Tally) {
+    if tally.unsaid {
+        tally.unheard(is_gone(rt));
     }
-    n
 }
 
-// A proved loop has to end, and nothing says that a record does: the turns are counted down from a number that no run uses up.
+// A proved loop has to end, and nothing says that a record does: there are more turns than any run takes. The record's last line is done,
+// or the output takes no more, where it is left.
 fn turns(
     rt: &HostRuntime,
     input: &mut [u8],
@@ -163,17 +106,23 @@ fn turns(
     room: &mut [u8],
 ) {
     let mut regs = fresh_on(plane);
-    let mut told = start();
-    let mut left = u64::MAX;
-    while 0 < left {
-        told = next(rt, told, input, line);
-        let list = asked(told);
-        let q = replaying::replay(regs, &list, mem);
+    let mut told = Told {
+        reader: Reader::start(),
+        tally: Tally::default(),
+        event: Event::Nothing,
+    };
+    for _ in 0..u64::MAX {
+        next(rt, &mut told, input, line);
+        let asked = events::asked_of(told.event, told.tally.by_units);
+        let q = replaying::replay(regs, &asked, mem);
         regs = q.regs;
-        told = heard(rt, done(told, q.number, q.units, plane, mem, room));
-        left = left_after(told, left);
+        done(&mut told, q.number, q.units, plane, mem, room);
+        heard(rt, &mut told.tally);
+        if told.reader.ended | told.tally.broken {
+            break;
+        }
     }
-    ended(told.tally, plane, mem, room);
+    ended(&mut told.tally, plane, mem, room);
 }
 
 // A line's first 81 characters are held: they say what the line says (`held_decides`, crate events). The largest picture has 524,288
@@ -197,24 +146,25 @@ fn replay_with(rt: &HostRuntime, plane: Plane, words: u32) {
     replay_at(rt, plane, words, &mut mem);
 }
 
-// The number with which a plane and a memory, so wired, are refused, or 0.
-fn plane_refused(wiring: Wiring, p: u32, h: u32, words: u32) -> u8
+// The number with which a plane and a memory, so wired, are refused, if they are.
+#[tactic(auto, unfolding(crate::specs::Plane::plane_refused))]
+fn plane_refused(wiring: Wiring, p: u32, h: u32, words: u32) -> Option<u8>
     ensures { result ≡ plane_refused wiring p h words }
 {
     if !units::length_right(wiring, words as usize) {
-        return 2;
+        return Some(2);
     }
     if !refusals::plane_fits(p, h) {
-        return 11;
+        return Some(11);
     }
-    if (words as u64) < p as u64 * h as u64 {
-        return 23;
+    if u64::from(words) < u64::from(p) * u64::from(h) {
+        return Some(23);
     }
-    0
+    None
 }
 
 // An argument as a number.
-fn number_at(rt: &impl Env, i: usize) -> Number {
+fn number_at(rt: &impl Env, i: usize) -> Option<u32> {
     let mut text = [0u8; 16];
     let n = outside::arg(rt, i, &mut text);
     decimals::number_of(&text[..n])
@@ -222,34 +172,32 @@ fn number_at(rt: &impl Env, i: usize) -> Number {
 
 // The plane and the memory are there, or are refused.
 fn replay_on(rt: &HostRuntime, plane: Plane, words: u32) {
-    let wiring = plane.wiring;
-    let n = plane_refused(wiring, plane.across, plane.down, words);
-    if n != 0 {
-        return log::refused_plane(n);
+    match plane_refused(plane.wiring, plane.across, plane.down, words) {
+        Some(number) => log::refused_plane(number),
+        None => replay_with(rt, plane, words),
     }
-    replay_with(rt, plane, words);
 }
 
 fn main(rt: HostRuntime) {
     if !outside::is_given(&rt, 3) | outside::is_given(&rt, 5) {
         return log::usage();
     }
-    let Number::Is(p) = number_at(&rt, 1) else {
+    let Some(across) = number_at(&rt, 1) else {
         return log::usage();
     };
-    let Number::Is(h) = number_at(&rt, 2) else {
+    let Some(down) = number_at(&rt, 2) else {
         return log::usage();
     };
-    let Number::Is(words) = number_at(&rt, 3) else {
+    let Some(words) = number_at(&rt, 3) else {
         return log::usage();
     };
-    let Named::Is(wiring) = wirings::wiring_at(&rt, 4) else {
+    let Some(wiring) = wirings::wiring_at(&rt, 4) else {
         return log::usage();
     };
     let plane = Plane {
-        across: p,
-        down: h,
-        wiring: wiring,
+        across,
+        down,
+        wiring,
     };
     replay_on(&rt, plane, words);
 }

@@ -1,6 +1,6 @@
 -- A digit is std's hexadecimal digit, but for the lower case.
 use Prim.Native.Nat.{ℕ, ◌<◌, ◌%◌}
-use mathlib.Core.Path.{◌≡◌, sym, ◌∙◌}
+use mathlib.Core.Path.{◌≡◌, ◌∙◌}
 use mathlib.Core.Bool.{true, false}
 use native.Mathlib.Omega.{arith}
 use Rattle.std.proofs.Common.{Option, None, Some}

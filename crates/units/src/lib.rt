@@ -172,11 +172,10 @@ fn brush_of(r: Registers) -> Brush
 fn after_burst(r: Registers, q: Burst) -> Registers
     ensures { result ≡ put_remaining (put_work (put_cursor r q.cursor) q.work) (r.remaining - q.count) }
 {
-    let n = q.count;
     Registers {
         cursor: q.cursor,
         work: q.work,
-        remaining: r.remaining.saturating_sub(n as u64),
+        remaining: r.remaining.saturating_sub(u64::from(q.count)),
         ..r
     }
 }

@@ -1,5 +1,4 @@
 -- `end_of` gives `span_of`: the place of the first space, or the end.
-use mathlib.Core.Path.{◌∙◌, ap}
 use Rattle.script.proofs.Laws.{first_space}
 use Rattle.script.proofs.end_of.Goals as goal
 

@@ -1,5 +1,4 @@
 -- `fields` gives `fields_of`: the same test, on what the calls answer.
-use lib.Seq.{length-take-le}
 use mathlib.Core.Path.{sym, ◌∙◌}
 use Rattle.script.specs.Line.{one_of, second_of}
 use Rattle.script.proofs.LineLaws.{fields_none, fields_one, fields_first_wrong, fields_two}

@@ -7,5 +7,6 @@ use Rattle.script.proofs.padded.Goals as goal
 pub returns : goal.returns
 returns c = elim c.match-matches.branch [
   | in-70 w ↦ padded_request _ _ c.starts_with.ensures.value w.matches-is w.in-70.is
-  | in_default w ↦ let n = w.in_default.in_default-own.rest in padded_other _ _ c.starts_with.ensures.value w.matches-is (λ e. n.1 (inl e)) (λ e. n.1 (inr e))
+  | in_default w ↦ let n =
+      w.in_default.in_default-own.rest in padded_other _ _ c.starts_with.ensures.value w.matches-is (λ e. n.1 (inl e)) (λ e. n.1 (inr e))
 ]
