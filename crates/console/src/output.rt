@@ -25,6 +25,7 @@ impl<'a> Model for Output<'a> {
 }
 
 // The digits A to F in upper case.
+#[tactic(auto, unfolding(crate::specs::Upper::upper_of))]
 fn upper(c: u8) -> u8
     ensures { result ≡ upper_of c }
 {
