@@ -10,5 +10,5 @@ pub returns : goal.returns
 returns c =
     runs _ _ _ (sym c.formed.ensures
     ∙ c.if-not-formed.false)
-    c.from_plain.ensures c.run.ensures
-    c.ran_plain.ensures
+    c.into.ensures c.run.ensures
+    c.into-2.ensures

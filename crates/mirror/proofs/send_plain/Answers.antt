@@ -10,5 +10,5 @@ pub returns : goal.returns
 returns c =
     sends _ _ _ (sym c.formed.ensures
     ∙ c.if-not-formed.false)
-    c.from_plain.ensures c.send_all.ensures
-    c.sent_plain.ensures
+    c.into.ensures c.send_all.ensures
+    c.into-2.ensures
