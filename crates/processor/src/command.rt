@@ -19,7 +19,7 @@ ghost use Rattle.processor.specs.Command.{
   command_taken,
 };
 
-use dots::Cursor;
+use dots::{Cursor, Operation};
 use registers::{Buffer, Command, Drawing, Mode, Pen, Progress, Registers, Transfer, Video, Work};
 
 // The command in progress, with no parameter taken.
