@@ -4,6 +4,7 @@ use Rattle.easel.proofs.sheet.translated.Goals as goal
 
 pub returns : goal.returns
 returns c =
-    translated_in_law _ _ _ _ c.words_used-n.ensures.same
+    rw c.told.ensures
+    (translated_in_law _ _ _ _ c.words_used-n.ensures.same
     c.sheet_of.ensures c.table_of.ensures
-    c.translate.ensures
+    c.translate.ensures)
