@@ -83,7 +83,7 @@ fn placed(f: Drawing, zoom: u8, m: Mode, work: Work) -> bool
 }
 
 // Kind by kind: the fields that it has no use for are 0, it is placed, and so many cycles of it are left. Each asks its own kind's count:
-// by `registers::cycles_left`, said once in `placed`, a byte at a port beside a figure took 60 instructions more (of 257).
+// by `registers::cycles_left`, said once in `placed`, the status beside a figure took 314 instructions for 267.
 fn nothing_fits(w: PlainWork, left: u64) -> bool
     ensures { result ≡ nothing_b w left }
 {
