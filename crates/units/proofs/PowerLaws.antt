@@ -75,10 +75,10 @@ folded_fits n = both_ways (fits n) (length_b Folded n) to from
     from : length_b Folded n ≡ true → fits n ≡ true
     from e =
         or_else _ _ e
-            (λ e. or_else _ _ e (λ e. or_else _ _ e (λ e. or_else _ _ e (λ e. or_else _ _ e (λ e. or_else _ _ e (λ e. or_else _ _ e
+        (λ e. or_else _ _ e (λ e. or_else _ _ e (λ e. or_else _ _ e (λ e. or_else _ _ e (λ e. or_else _ _ e (λ e. or_else _ _ e
         (λ e. or_else _ _ e
-            (λ e. or_else _ _ e (λ e. or_else _ _ e (λ e. or_else _ _ e (λ e. or_else _ _ e (λ e. or_else _ _ e (λ e. or_else _ _ e
+        (λ e. or_else _ _ e (λ e. or_else _ _ e (λ e. or_else _ _ e (λ e. or_else _ _ e (λ e. or_else _ _ e (λ e. or_else _ _ e
         (fits_at n 16 tt) (fits_at n 32 tt)) (fits_at n 64 tt)) (fits_at n 128 tt)) (fits_at n 256 tt)) (fits_at n 512 tt))
-            (fits_at n 1024 tt))
+        (fits_at n 1024 tt))
         (fits_at n 2048 tt)) (fits_at n 4096 tt)) (fits_at n 8192 tt)) (fits_at n 16384 tt)) (fits_at n 32768 tt)) (fits_at n 65536 tt))
         (fits_at n 131072 tt)) (fits_at n 262144 tt)
