@@ -22,8 +22,6 @@ impl Pace for Curve {
 
     ghost on = { curve_on };
 
-    ghost stands_on = { λ p h. h };
-
     fn address(self) -> u32 {
         (self.place.at % 4194304) as u32
     }

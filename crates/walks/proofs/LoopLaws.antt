@@ -14,10 +14,15 @@ use Rattle.figures.specs.Figure.{pattern_of}
 use Rattle.walks.specs.declared.line.Line.{Line}
 use Rattle.walks.specs.declared.side.Straight.{Straight}
 use Rattle.walks.specs.declared.pace.Stroke.{Stroke}
-use Rattle.walks.specs.Address.{Walked, walked, line_walk, straight_walk}
+use Rattle.walks.specs.Address.{kept, Walked, walked, line_walk, straight_walk}
 use Rattle.walks.specs.Line.{line_at, line_on}
 use Rattle.walks.specs.Straight.{straight_at, straight_on}
 use Rattle.walks.specs.Pace.{Paced, paced, pace_walk}
+
+-- what wraps at 64 bits is not kept
+pub kept_wraps : (t : ℕ) → kept (t % 18446744073709551616) ≡ kept t
+unfolding kept
+kept_wraps t = omega arith
 
 -- a cycle with the mask that the table has is one at the bit address
 pub cycle_at : (w : Wiring) (op : Operation) (a p : ℕ) (m l : List ℕ) {o : Operation} → o ≡ op

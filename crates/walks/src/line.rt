@@ -4,7 +4,7 @@ ghost use Rattle.dots.specs.Dot.{cursor_at};
 ghost use Rattle.registers.specs.Size.{line_kind};
 ghost use Rattle.walks.specs.Walk.{led, figure_walk};
 ghost use Rattle.walks.specs.Address.{Packed, kept};
-ghost use Rattle.walks.specs.Line.{line_at, line_on, line_stands, line_stands_on};
+ghost use Rattle.walks.specs.Line.{line_at, line_on};
 
 use crate::bits::stride;
 use crate::pace::{Pace, Stroke};
@@ -37,23 +37,19 @@ impl Pace for Line {
 
     ghost on = { line_on };
 
-    ghost stands = { line_stands };
-
-    ghost stands_on = { line_stands_on };
-
     fn address(self) -> u32 {
         (self.place % 4194304) as u32
     }
 
-    // A line's move, and D after it. D is negative from 2^13 on, which is 2^45 here; asked of three bits it costs one step less.
+    // A line's move, and D after it. D is negative from 2^13 on, which is 2^45 here.
     fn step(self) -> Line {
-        let gain = if self.place / 35184372088832 % 8 != 0 {
+        let gain = if 35184372088832 <= self.place {
             self.axis
         } else {
             self.diagonal
         };
         Line {
-            place: keep(self.place + gain),
+            place: keep(self.place.wrapping_add(gain)),
             ..self
         }
     }

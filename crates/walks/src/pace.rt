@@ -5,26 +5,19 @@ ghost use Rattle.walks.specs.Pace.{paced, pace_walk};
 
 use dots::{Cursor, Operation, Wiring};
 
-// What stands for the place of a dot, with all that the step after it asks: at is its bit address, on what the step leads to,
-// and stands says from where, and so to where, a step may lead.
+// What stands for the place of a dot, with all that the step after it asks: at is its bit address, on what the step leads to.
 pub trait Pace: Copy {
     ghost at: { Self → ℕ };
 
     ghost on: { Self → Self };
 
-    ghost stands: { Self → Type 0 } = { λ _. Unit {0} };
-
     // The bit address.
     fn address(self) -> u32
-        requires { stands self }
         ensures { result ≡ at self };
 
     // The step to the next dot.
     fn step(self) -> Self
-        requires { stands self }
         ensures { result ≡ on self };
-
-    ghost stands_on: { (p : Self) → stands p → stands (on p) };
 }
 
 // What each dot is drawn with: bit k mod 16 of the pattern low, high is dot k's.
@@ -38,7 +31,6 @@ pub struct Stroke {
 
 // Dots k to end by the operation of a number, known before the first dot, as the table of masks is.
 fn walk_loop<P: Pace, const OP: u8>(mem: &mut [u16], s: Stroke, from: P, k: u32, end: u32) -> P
-    requires { P.stands from }
     ensures { paced result mem.new ≡ pace_walk P.at P.on s.wiring (operation_of OP) s.low s.high (end - k) k from mem.old }
 {
     let masks = dots::MASKS;
@@ -58,7 +50,6 @@ fn walk_loop<P: Pace, const OP: u8>(mem: &mut [u16], s: Stroke, from: P, k: u32,
 
 // The same by the operation, which is looked at once.
 pub(crate) fn walk_by<P: Pace>(mem: &mut [u16], s: Stroke, from: P, k: u32, end: u32) -> P
-    requires { P.stands from }
     ensures { paced result mem.new ≡ pace_walk P.at P.on s.wiring s.op s.low s.high (end - k) k from mem.old }
 {
     match s.op {
@@ -71,7 +62,6 @@ pub(crate) fn walk_by<P: Pace>(mem: &mut [u16], s: Stroke, from: P, k: u32, end:
 
 // The same; whether the pattern is all ones is looked at once too.
 pub fn walk<P: Pace>(mem: &mut [u16], s: Stroke, from: P, k: u32, end: u32) -> P
-    requires { P.stands from }
     ensures { paced result mem.new ≡ pace_walk P.at P.on s.wiring s.op s.low s.high (end - k) k from mem.old }
 {
     if s.low == 255 && s.high == 255 {

@@ -4,7 +4,7 @@ ghost use Rattle.dots.specs.Dot.{cursor_at};
 ghost use Rattle.registers.specs.Size.{line_kind, factor_of};
 ghost use Rattle.walks.specs.Walk.{led, figure_walk, stood, row_walk, rows_walk};
 ghost use Rattle.walks.specs.Address.{Side, row_byte};
-ghost use Rattle.walks.specs.Straight.{straight_at, straight_on, straight_stands, straight_stands_on};
+ghost use Rattle.walks.specs.Straight.{straight_at, straight_on};
 
 use crate::bits::stride;
 use crate::pace::{self, Pace, Stroke};
@@ -23,17 +23,13 @@ impl Pace for Straight {
 
     ghost on = { straight_on };
 
-    ghost stands = { straight_stands };
-
-    ghost stands_on = { straight_stands_on };
-
     fn address(self) -> u32 {
         self.at
     }
 
     fn step(self) -> Straight {
         Straight {
-            at: (self.at + self.step) % 4194304,
+            at: self.at.wrapping_add(self.step) % 4194304,
             ..self
         }
     }

@@ -3,9 +3,6 @@ use Rattle.walks.proofs.BitLaws.{line_done}
 use Rattle.walks.proofs.LoopLaws.{line_walked}
 use Rattle.walks.proofs.line.line_dots.Goals as goal
 
-pub walk-place-requires : goal.walk-place-requires
-walk-place-requires c = (c.packed.ensures.small, (c.packed-2.ensures.small, c.packed-3.ensures.small))
-
 pub returns : goal.returns
 returns c =
     let p = c.requires in

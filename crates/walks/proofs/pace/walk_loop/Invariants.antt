@@ -7,7 +7,4 @@ use Rattle.walks.proofs.pace.walk_loop.Given as goal
 abbrev pub invariant-loop-i : goal.invariant-loop-i
 invariant-loop-i g l =
     let walk = pace_walk g.P.Pace.at g.P.Pace.on l.s.wiring (operation_of g.row.OP) l.s.low l.s.high in
-    record {
-      stands : g.P.Pace.stands l.p;
-      same : walk (l.end - l.k) l.k l.initial.p l.initial.mem ≡ walk (l.end - l.i) l.i l.p l.mem;
-    }
+    walk (l.end - l.k) l.k l.initial.p l.initial.mem ≡ walk (l.end - l.i) l.i l.p l.mem

@@ -1,12 +1,8 @@
 -- `row_bits` walks as the cursor does (`row_done`).
 use mathlib.Core.Path.{refl}
-use Rattle.walks.proofs.BitLaws.{stride_small}
 use Rattle.walks.proofs.LoopLaws.{straight_walked}
 use Rattle.walks.proofs.RowLaws.{row_done}
 use Rattle.walks.proofs.side.row_bits.Goals as goal
-
-pub walk_by-requires : goal.walk_by-requires
-walk_by-requires c = (c.requires.1, stride_small c.stride.ensures)
 
 pub returns : goal.returns
 returns c =

@@ -2,7 +2,7 @@
 use mathlib.Core.Path.{refl, sym, ◌∙◌}
 use native.Mathlib.Omega.{arith}
 use Rattle.walks.proofs.LoopLaws.{straight_walked, straight_lt}
-use Rattle.walks.proofs.BitLaws.{stride_small, side_past, side_on, sides_end}
+use Rattle.walks.proofs.BitLaws.{side_past, side_on, sides_end}
 use Rattle.walks.proofs.LeastLaws.{least_min}
 use borrow.Author.Rules.{rules}
 use Rattle.walks.proofs.side.side_dots.Goals as goal
@@ -12,10 +12,6 @@ loop-i-init c = record { small = search rules; long = refl; same = refl }
 
 pub side_end-requires : goal.side_end-requires
 side_end-requires c = (c.requires.0, omega arith)
-
-pub walk-a-requires : goal.walk-a-requires
-walk-a-requires c =
-    (c.loop-i.invariant.small, stride_small c.stride-step.ensures)
 
 pub loop-i-smaller : goal.loop-i-smaller
 loop-i-smaller c =
