@@ -1,7 +1,7 @@
 -- The list: what is left to do from here, behind the events that were taken and their units, is what was to do from the start. True
 -- because `all_done` takes the first event of a list first.
 use mathlib.Core.Path.{◌≡◌, refl, sym, ap, ◌∙◌}
-use Rattle.std.specs.Prelude.{Bool, Ok, Err}
+use Rattle.std.specs.Prelude.{Bool, true, false, Ok, Err}
 use mathlib.Core.List.{List, ◌∷◌}
 use Prim.Native.Nat.{ℕ, suc, ◌+◌, ◌*◌, min, ◌≤◌, ◌<◌}
 use native.Mathlib.Omega.{arith}
@@ -118,6 +118,14 @@ module _ (l : List ℕ) {n : ℕ} (is : n ≡ min most_replayed (length l)) wher
 
 -- `replay`, each way out
 module _ (s : State) (l : List ℕ) where
+  pub way_unsound : sound_b s.regs ≡ false → none_taken 1 s ≡ replayed s l
+  unfolding replayed
+  way_unsound e = rw e
+
+  pub way_mislong : sound_b s.regs ≡ true → fitted_b s ≡ false → none_taken 2 s ≡ replayed s l
+  unfolding replayed
+  way_mislong e f = rw (e, f)
+
   pub way_refused : {why : Refusal} → Err why ≡ accepted_by (sound_b s.regs) (fitted_b s)
       → none_taken (refusal_number why) s ≡ replayed s l
   unfolding replayed
