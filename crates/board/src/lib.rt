@@ -36,7 +36,7 @@ impl From<Ran> for Report {
 pub fn board_run(r: &mut Registers, mem: &mut [u16], budget: u32) -> Report
     ensures { report result r.new mem.new ≡ run_done budget (state r.old mem.old) }
 {
-    let done = units::run(*r, mem, budget);
+    let done = units::told(*r, units::run(*r, mem, budget));
     *r = done.regs;
     done.into()
 }

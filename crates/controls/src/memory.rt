@@ -86,7 +86,7 @@ fn run_within(r: Registers, mem: &mut [u16], words: usize, budget: u32) -> Ran
     ensures { ranOutcome result mem.new ≡ run_within r mem.old words budget }
 {
     let n = buffers::used(words, mem);
-    units::run(r, &mut mem[..n], budget)
+    units::told(r, units::run(r, &mut mem[..n], budget))
 }
 
 // `U n`

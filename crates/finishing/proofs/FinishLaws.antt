@@ -1,8 +1,9 @@
 -- Runs with the whole budget, one after the other, come to one that does not say that its budget is spent: a run that says so did
 -- as many units, and 272 of them would be more than lie before any sound register set. Then the controller waits for entries, or it
 -- is in read mode. Where it waited before, nothing is done.
-use mathlib.Core.Path.{◌≡◌, refl, ap, ◌∙◌}
-use mathlib.Core.Bool.{Bool, true, false, cond}
+use mathlib.Core.Path.{◌≡◌, refl, sym, ap, ◌∙◌}
+use mathlib.Core.Bool.{Bool, true, false, cond, not}
+use denote.Enum.Bare.{sameb}
 use mathlib.Core.List.{List}
 use Prim.Native.Nat.{ℕ, zero, suc, ◌+◌, ◌-◌, ◌*◌, ◌≤◌, ◌<◌}
 use native.Mathlib.Omega.{arith}
@@ -16,8 +17,12 @@ use Rattle.registers.specs.declared.Work.TheVariants.{Idle, Figure, Arc, Charact
 use Rattle.registers.specs.declared.Board.{Board}
 use Rattle.registers.specs.declared.Registers.{Registers}
 use Rattle.registers.specs.State.{State, state}
+use Rattle.units.specs.contracts.Stop.{the_type}
+use Rattle.units.specs.declared.Stop.{Stop}
+use Rattle.units.specs.declared.Stop.TheVariants.{Spent, Idle as Nothing, Full}
+use Rattle.units.specs.Stop.{stop_number}
 use Rattle.units.specs.Run.{reason_by, reason_of, units_done, stopped, length_b, run_done}
-use Rattle.units.specs.Run.{Outcome as RunOutcome}
+use Rattle.units.specs.Run.{Outcome as RunOutcome, outcome as run_outcome}
 use Rattle.laws.proofs.BranchLaws.{either, cases}
 use Rattle.laws.proofs.KeptLaws.{Going, SoundSet, Whole, own, lawful_sound}
 use Rattle.laws.proofs.KeptUnitLaws.{left_by, run_kept}
@@ -125,6 +130,9 @@ pub finished_few : (s : State) {o : Outcome} → o ≡ finished s → o.sent.uni
 unfolding finished
 finished_few s e = rw e (runs_few 272 s)
 
+pub run_few : (s : State) {o : RunOutcome} → o ≡ run_done full_budget s → o.ran.count ≤ full_budget
+run_few s e = rw e (run_within_law full_budget s)
+
 -- ---- the loop of `finish`
 pub more_more : (u v : ℕ) (o : Outcome) → more u (more v o) ≡ more (u + v) o
 more_more u v o =
@@ -157,3 +165,21 @@ module _ (u f : ℕ) (s : State) (some : 0 < f) {o : RunOutcome} (ran : o ≡ ru
 
   pub ends : (o.ran.why ≡ 1 → ⊥) → more u (runs_done f s) ≡ more (u + o.ran.count) (runs_done 0 (left_by o))
   ends y = one_run false (ne_eqb o.ran.why 1 y)
+
+-- a run that is refused does no unit and leaves all as it was: it is the last one too
+pub refused_ends : (u f : ℕ) (s : State) → 0 < f → {n : ℕ} {m : List ℕ} → run_outcome (record { number = n; count = 0; why = 0; regs = s.regs }) m ≡ run_done 4294967295 s
+    → outcome (record { regs = s.regs; units = u }) m ≡ more u (runs_done f s)
+refused_ends u f s some {n} {m} ran =
+    let e : u ≡ u + 0 = omega arith in
+    no_run u (state s.regs m) ∙ ap (λ (k : ℕ). more k (runs_done 0 (state s.regs m))) e ∙ sym (ends u f s some ran (λ y. absurd (omega arith)))
+
+-- the code's test whether the budget is spent is that of the number
+pub is_spent : (w : Stop) → false ≡ not (sameb the_type w Spent) → stop_number w ≡ 1
+is_spent Spent h = refl
+is_spent Nothing h = let k : ◌≡◌ {A = ℕ} 0 1 = ap (λ (b : Bool). cond b 1 0) h in absurd (omega arith)
+is_spent Full h = let k : ◌≡◌ {A = ℕ} 0 1 = ap (λ (b : Bool). cond b 1 0) h in absurd (omega arith)
+
+pub not_spent : (w : Stop) → true ≡ not (sameb the_type w Spent) → stop_number w ≡ 1 → ⊥
+not_spent Spent h e = let k : ◌≡◌ {A = ℕ} 1 0 = ap (λ (b : Bool). cond b 1 0) h in absurd (omega arith)
+not_spent Nothing h e = absurd (omega arith)
+not_spent Full h e = absurd (omega arith)

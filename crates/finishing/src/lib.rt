@@ -6,6 +6,7 @@ ghost use Rattle.registers.specs.State.{state};
 ghost use Rattle.finishing.specs.Finish.{outcome, finished};
 
 use registers::Registers;
+use units::Stop;
 
 // The registers after runs, and the units that these reported.
 #[derive(Clone, Copy)]
@@ -24,10 +25,12 @@ pub fn finish(r: Registers, mem: &mut [u16]) -> Sent
     let mut regs = r;
     let mut units: u64 = 0;
     for done in 0..MOST_RUNS {
-        let q = units::run(regs, mem, u32::MAX);
+        let Ok(q) = units::run(regs, mem, u32::MAX) else {
+            break;
+        };
         units += q.count as u64;
         regs = q.regs;
-        if q.why != 1 {
+        if q.why != Stop::Spent {
             break;
         }
     }

@@ -148,17 +148,9 @@ fn looked_at(all: usize) -> usize
 pub fn send_all(r: Registers, entries: &[u16], mem: &mut [u16]) -> Listed
     ensures { listed result mem.new ≡ list_sent (state r mem.old) entries.now }
 {
-    if !registers::sound(r) {
+    if let Err(why) = units::accepted(r, mem.len()) {
         return Listed {
-            number: 1,
-            taken: 0,
-            units: 0,
-            regs: r,
-        };
-    }
-    if !units::length_right(r.board.wiring, mem.len()) {
-        return Listed {
-            number: 2,
+            number: u8::from(why),
             taken: 0,
             units: 0,
             regs: r,

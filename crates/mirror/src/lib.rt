@@ -234,7 +234,8 @@ pub fn kranichseil_run(r: PlainRegisters, mem: &mut [u16], budget: u32) -> Plain
             regs: r,
         };
     }
-    units::run(r.into(), mem, budget).into()
+    let set = r.into();
+    units::told(set, units::run(set, mem, budget)).into()
 }
 
 // The run on the registers where they stand.

@@ -1,7 +1,7 @@
 -- The list: what is left to do from here, behind the events that were taken and their units, is what was to do from the start. True
 -- because `all_done` takes the first event of a list first.
-use mathlib.Core.Path.{◌≡◌, sym, ap, ◌∙◌}
-use mathlib.Core.Bool.{true, false}
+use mathlib.Core.Path.{◌≡◌, refl, sym, ap, ◌∙◌}
+use Rattle.std.specs.Prelude.{Bool, true, false, Ok, Err}
 use mathlib.Core.List.{List, ◌∷◌}
 use Prim.Native.Nat.{ℕ, suc, ◌+◌, ◌*◌, min, ◌≤◌, ◌<◌}
 use native.Mathlib.Omega.{arith}
@@ -10,8 +10,11 @@ use lib.Seq.{drop-cons, take-append_seam}
 use borrow.Author.Tests.{eq-eqb, ne_eqb}
 use Rattle.registers.specs.Sound.{sound_b}
 use Rattle.registers.specs.State.{State}
+use Rattle.units.specs.declared.Refusal.{Refusal}
+use Rattle.units.specs.Answered.{refusal_number, accepted_by}
 use Rattle.units.specs.Run.{fitted_b}
-use Rattle.replaying.specs.Replay.{Effect, event_done, Outcome, outcome, none_taken, behind, all_done, most_replayed, replayed}
+use Rattle.units.proofs.RunLaws.{refused_by, accepted_right}
+use Rattle.replaying.specs.Replay.{Effect, event_done, Outcome, outcome, none_taken, behind, all_done, replayed_by, most_replayed, replayed}
 use Rattle.replaying.proofs.EventLaws.{event_few}
 
 -- it ended: with this number, k events taken, u units
@@ -123,7 +126,16 @@ module _ (s : State) (l : List ℕ) where
   unfolding replayed
   way_mislong e f = rw (e, f)
 
-  pub way_done : {o : Outcome} {n : ℕ} → sound_b s.regs ≡ true → fitted_b s ≡ true → n ≡ min most_replayed (length l)
-      → o ≡ all_done s (take n l) → o ≡ replayed s l
+  pub way_refused : {why : Refusal} → Err why ≡ accepted_by (sound_b s.regs) (fitted_b s)
+      → none_taken (refusal_number why) s ≡ replayed s l
   unfolding replayed
-  way_done e f h o = o ∙ rw (e, f) (ap (all_done s) (looked_at l h))
+  way_refused e =
+      refused_by (λ (k j : Bool). replayed_by k j s (take most_replayed l)) (λ (n : ℕ). none_taken n s) (λ j. refl) refl
+      (sound_b s.regs) (fitted_b s) e
+
+  pub way_done : {x : Unit {0}} {o : Outcome} {n : ℕ} → Ok x ≡ accepted_by (sound_b s.regs) (fitted_b s)
+      → n ≡ min most_replayed (length l) → o ≡ all_done s (take n l) → o ≡ replayed s l
+  unfolding replayed
+  way_done e h o =
+      let t = accepted_right (sound_b s.regs) (fitted_b s) e in
+      o ∙ rw (t.0, t.1) (ap (all_done s) (looked_at l h))

@@ -32,7 +32,7 @@ fn run_event(r: Registers, e: u64, mem: &mut [u16]) -> Sent
     ensures { runs result mem.new ≡ runs_of (state r mem.old) e }
 {
     if e < IDLE_MARK {
-        let q = units::run(r, mem, (e % UNITS_MARK) as u32);
+        let q = units::told(r, units::run(r, mem, (e % UNITS_MARK) as u32));
         return Sent {
             regs: q.regs,
             units: q.count as u64,
@@ -85,17 +85,9 @@ fn looked_at(all: usize) -> usize
 pub fn replay(r: Registers, events: &[u64], mem: &mut [u16]) -> Replayed
     ensures { outcome result mem.new ≡ replayed (state r mem.old) events.now }
 {
-    if !registers::sound(r) {
+    if let Err(why) = units::accepted(r, mem.len()) {
         return Replayed {
-            number: 1,
-            taken: 0,
-            units: 0,
-            regs: r,
-        };
-    }
-    if !units::length_right(r.board.wiring, mem.len()) {
-        return Replayed {
-            number: 2,
+            number: u8::from(why),
             taken: 0,
             units: 0,
             regs: r,

@@ -1,7 +1,7 @@
 -- Entries sent one at a time: one, and the list. What is left to send from here, with what was taken and the units so far, is what was
 -- to send from the start. True because `taken_of`, `number_at`, `sent_all` and `units_of` take the first entry of a list first.
 use mathlib.Core.Path.{◌≡◌, refl, sym, ap, ap₂, ◌∙◌}
-use mathlib.Core.Bool.{Bool, true, false}
+use Rattle.std.specs.Prelude.{Bool, true, false, Ok, Err}
 use mathlib.Core.List.{List, [], ◌∷◌}
 use Prim.Native.Nat.{ℕ, suc, ◌+◌, min, ◌≤◌, ◌<◌}
 use native.Mathlib.Omega.{arith}
@@ -12,11 +12,14 @@ use borrow.Author.Tests.{eqb-true, eq-eqb, ne_eqb, leb-true, leb-false}
 use Rattle.registers.specs.Sound.{sound_b}
 use Rattle.registers.specs.State.{State, state}
 use Rattle.ports.specs.declared.Answer.{Answer}
+use Rattle.units.specs.declared.Refusal.{Refusal}
+use Rattle.units.specs.Answered.{refusal_number, accepted_by}
 use Rattle.units.specs.Run.{Outcome, fitted_b, run_done}
+use Rattle.units.proofs.RunLaws.{refused_by, accepted_right}
 use Rattle.laws.proofs.BranchLaws.{cases}
 use Rattle.sending.specs.Send.{written, sent, left, sent_all, units_of, AllAccepted}
 use Rattle.sends.specs.Sends.{ListOutcome, listed, taken_of, number_at, taken_from, list_taken}
-use Rattle.sends.specs.Sends.{list_refused, most_listed, list_sent}
+use Rattle.sends.specs.Sends.{list_refused, list_by, most_listed, list_sent}
 
 -- ---- a list, behind k entries that were taken with u units
 abbrev pub went_on : ℕ → ℕ → State → List ℕ → ListOutcome
@@ -135,18 +138,19 @@ module _ (l : List ℕ) {n : ℕ} (is : n ≡ min most_listed (length l)) where
 
 -- `send_all`, each way out
 module _ (s : State) (l : List ℕ) where
-  pub way_unsound : sound_b s.regs ≡ false → list_refused 1 s ≡ list_sent s l
+  pub way_refused : {why : Refusal} → Err why ≡ accepted_by (sound_b s.regs) (fitted_b s)
+      → list_refused (refusal_number why) s ≡ list_sent s l
   unfolding list_sent
-  way_unsound e = rw e
+  way_refused e =
+      refused_by (λ (k j : Bool). list_by k j s (take most_listed l)) (λ (n : ℕ). list_refused n s) (λ j. refl) refl
+      (sound_b s.regs) (fitted_b s) e
 
-  pub way_mislong : sound_b s.regs ≡ true → fitted_b s ≡ false → list_refused 2 s ≡ list_sent s l
+  pub way_sent : {x : Unit {0}} {o : ListOutcome} {n : ℕ} → Ok x ≡ accepted_by (sound_b s.regs) (fitted_b s)
+      → n ≡ min most_listed (length l) → o ≡ list_taken s (take n l) → o ≡ list_sent s l
   unfolding list_sent
-  way_mislong e f = rw (e, f)
-
-  pub way_sent : {o : ListOutcome} {n : ℕ} → sound_b s.regs ≡ true → fitted_b s ≡ true → n ≡ min most_listed (length l)
-      → o ≡ list_taken s (take n l) → o ≡ list_sent s l
-  unfolding list_sent
-  way_sent e f h o = o ∙ rw (e, f) (ap (list_taken s) (ap (λ (k : ℕ). take k l) h ∙ looked_at most_listed l))
+  way_sent e h o =
+      let t = accepted_right (sound_b s.regs) (fitted_b s) e in
+      o ∙ rw (t.0, t.1) (ap (list_taken s) (ap (λ (k : ℕ). take k l) h ∙ looked_at most_listed l))
 
 -- ---- entries that are all accepted are all taken, and none is refused
 pub all_accepted : (s : State) (l : List ℕ) → AllAccepted s l → (taken_of s l ≡ length l) × (number_at s l ≡ 0)

@@ -51,7 +51,7 @@ pub fn send_one(r: Registers, e: u16, mem: &mut [u16]) -> Listed
             regs: r,
         };
     }
-    let q = units::run(a.regs, mem, u32::MAX);
+    let q = units::told(a.regs, units::run(a.regs, mem, u32::MAX));
     Listed {
         number: 0,
         taken: 1,

@@ -1,3 +1,4 @@
 pub mod Unit
 pub mod Run
 pub mod Stop
+pub mod Answered

@@ -3,27 +3,20 @@
 
 ghost use Rattle.std.specs.Prelude.{◌≡◌, ◌-◌};
 ghost use Rattle.registers.specs.Put.{put_cursor, put_work, put_remaining};
+ghost use Rattle.registers.specs.Sound.{sound_b};
 ghost use Rattle.registers.specs.State.{state};
 ghost use Rattle.units.specs.Unit.{fetched, fetch_by};
 ghost use Rattle.units.specs.Stop.{stop_number, reason_number};
 ghost use Rattle.units.specs.Run.{waiting, reason_of, length_b, outcome, run_from, run_done};
+ghost use Rattle.units.specs.Answered.{refusal_number, ran, answered, accepted_by};
 
 use bursts::Burst;
 use dots::Wiring;
 use registers::{Buffer, Mode, Registers, Work};
 use walks::Brush;
 
-// What a run answers: a number of refusal, the units done, why it stopped, and the registers.
-#[derive(Clone, Copy)]
-pub struct Ran {
-    pub number: u8,
-    pub count: u32,
-    pub why: u8,
-    pub regs: Registers,
-}
-
 // Why a run stops: its budget is spent, nothing is in progress or queued, or a read awaits room.
-#[derive(Clone, Copy)]
+#[derive(Clone, Copy, PartialEq, Eq)]
 pub enum Stop {
     Spent,
     Idle,
@@ -39,6 +32,62 @@ impl From<Stop> for u8 {
             Stop::Idle => 2,
             Stop::Full => 3,
         }
+    }
+}
+
+// Why a run is refused: the register set is unsound, or the memory's length is none that its wiring takes.
+#[derive(Clone, Copy, PartialEq, Eq)]
+pub enum Refusal {
+    Unsound,
+    Length,
+}
+
+impl From<Refusal> for u8 {
+    fn from(why: Refusal) -> u8
+        ensures { result ≡ refusal_number why }
+    {
+        match why {
+            Refusal::Unsound => 1,
+            Refusal::Length => 2,
+        }
+    }
+}
+
+// What a run does: the units done, why it stopped, and the registers.
+#[derive(Clone, Copy)]
+pub struct Done {
+    pub count: u32,
+    pub why: Stop,
+    pub regs: Registers,
+}
+
+// A run's answer in numbers, as it is printed and as C has it: the number of the refusal or 0, the units done, why it stopped, and the
+// registers.
+#[derive(Clone, Copy)]
+pub struct Ran {
+    pub number: u8,
+    pub count: u32,
+    pub why: u8,
+    pub regs: Registers,
+}
+
+// The answer in numbers of a run on these registers: a refusal leaves them as they were given, and does no unit.
+pub fn told(r: Registers, done: Result<Done, Refusal>) -> Ran
+    ensures { result ≡ answered r done }
+{
+    match done {
+        Ok(Done { count, why, regs }) => Ran {
+            number: 0,
+            count,
+            why: u8::from(why),
+            regs,
+        },
+        Err(why) => Ran {
+            number: u8::from(why),
+            count: 0,
+            why: 0,
+            regs: r,
+        },
     }
 }
 
@@ -101,28 +150,17 @@ pub fn length_right(wiring: Wiring, n: usize) -> bool
     }
 }
 
-// It stops after n units, and why.
-fn stops(r: Registers, n: u32, why: Stop) -> Ran
-    ensures { result ≡ record { number = 0; count = n; why = stop_number why; regs = r } }
+// Refusals 1 and 2: whether a run takes these registers and a memory of so many words.
+pub fn accepted(r: Registers, words: usize) -> Result<(), Refusal>
+    ensures { result ≡ accepted_by (sound_b r) (length_b r.board.wiring words) }
 {
-    Ran {
-        number: 0,
-        count: n,
-        why: u8::from(why),
-        regs: r,
+    if !registers::sound(r) {
+        return Err(Refusal::Unsound);
     }
-}
-
-// It is refused: the registers as they were given, and no unit.
-fn refused(r: Registers, number: u8) -> Ran
-    ensures { result ≡ record { number = number; count = 0; why = 0; regs = r } }
-{
-    Ran {
-        number,
-        count: 0,
-        why: 0,
-        regs: r,
+    if !length_right(r.board.wiring, words) {
+        return Err(Refusal::Length);
     }
+    Ok(())
 }
 
 // What a figure or a character is drawn with.
@@ -160,14 +198,18 @@ fn after_burst(r: Registers, q: Burst) -> Registers
 }
 
 // Units until the budget is spent or there is a reason to stop: of a figure, an arc and a character many at once.
-pub fn run_on(r: Registers, mem: &mut [u16], budget: u32) -> Ran
-    ensures { outcome result mem.new ≡ run_from budget 0 (state r mem.old) }
+pub fn run_on(r: Registers, mem: &mut [u16], budget: u32) -> Done
+    ensures { outcome (ran result) mem.new ≡ run_from budget 0 (state r mem.old) }
 {
     let mut s = r;
     let mut n: u32 = 0;
     while n < budget {
         if let Some(why) = reason(s) {
-            return stops(s, n, why);
+            return Done {
+                count: n,
+                why,
+                regs: s,
+            };
         }
         let (b, c, most) = (brush_of(s), s.cursor, budget - n);
         let q = match s.work {
@@ -190,18 +232,17 @@ pub fn run_on(r: Registers, mem: &mut [u16], budget: u32) -> Ran
         s = after_burst(s, q);
         n += q.count;
     }
-    stops(s, n, Stop::Spent)
+    Done {
+        count: n,
+        why: Stop::Spent,
+        regs: s,
+    }
 }
 
 // The run: refusals 1 and 2, else units.
-pub fn run(r: Registers, mem: &mut [u16], budget: u32) -> Ran
-    ensures { outcome result mem.new ≡ run_done budget (state r mem.old) }
+pub fn run(r: Registers, mem: &mut [u16], budget: u32) -> Result<Done, Refusal>
+    ensures { outcome (answered r result) mem.new ≡ run_done budget (state r mem.old) }
 {
-    if !registers::sound(r) {
-        return refused(r, 1);
-    }
-    if !length_right(r.board.wiring, mem.len()) {
-        return refused(r, 2);
-    }
-    run_on(r, mem, budget)
+    accepted(r, mem.len())?;
+    Ok(run_on(r, mem, budget))
 }

@@ -5,7 +5,7 @@ use native.Mathlib.Omega.{arith}
 use mathlib.Core.Path.{◌≡◌, refl, sym, ap, ◌∙◌}
 use Rattle.registers.specs.State.{state}
 use Rattle.finishing.specs.Finish.{more, runs_done, finished}
-use Rattle.finishing.proofs.FinishLaws.{none_more, no_run, goes_on, ends}
+use Rattle.finishing.proofs.FinishLaws.{none_more, no_run, goes_on, ends, refused_ends, is_spent, not_spent, run_few}
 use Rattle.finishing.proofs.finish.Goals as goal
 
 pub loop-done-init : goal.loop-done-init
@@ -13,24 +13,31 @@ unfolding finished
 loop-done-init c = record { long = refl; few = omega arith; rest = none_more _ }
 
 pub overflow_add-units : goal.overflow_add-units
-overflow_add-units c = omega (arith, c.loop-done.invariant.few, c.loop-done-test.true, c.struct_known-1.given)
+overflow_add-units c = omega (arith, c.loop-done.invariant.few, c.loop-done-test.true, run_few _ c.in-Ok.ensures)
 
-pub returns-then-q-ne1 : goal.returns-then-q-ne1
-returns-then-q-ne1 c =
+pub returns-in_default : goal.returns-in_default
+returns-in_default c =
     let l = c.loop-done in
     let some : 0 < 272 - l.done = omega arith in
-    no_run _ _ ∙ sym (l.invariant.rest ∙ ends _ _ _ some c.run-q.ensures c.if-q-ne1.true)
+    refused_ends _ _ _ some c.in_default.ensures ∙ sym l.invariant.rest
+
+pub returns-then-ne : goal.returns-then-ne
+returns-then-ne c =
+    let l = c.loop-done in
+    let some : 0 < 272 - l.done = omega arith in
+    no_run _ _ ∙ sym (l.invariant.rest ∙ ends _ _ _ some c.in-Ok.ensures (not_spent _ c.if-ne.ensures))
 
 pub loop-done-preserved : goal.loop-done-preserved
 loop-done-preserved c =
     let l = c.loop-done in
     let some : 0 < 272 - l.done = omega arith in
     let next : 272 - l.done - 1 ≡ 272 - (l.done + 1) = omega arith in
+    let q = c.in-Ok.q in
     record {
-      long = c.run-q.auto.mem ∙ l.invariant.long;
-      few = omega (arith, l.invariant.few, c.struct_known-1.given);
-      rest = l.invariant.rest ∙ goes_on _ _ _ some c.run-q.ensures c.if-q-ne1.false
-          ∙ ap (λ (k : ℕ). more (l.units + c.run-q.result.count) (runs_done k (state c.run-q.result.regs c.run-q.new.mem))) next;
+      long = c.run.auto.mem ∙ l.invariant.long;
+      few = omega (arith, l.invariant.few, run_few _ c.in-Ok.ensures);
+      rest = l.invariant.rest ∙ goes_on _ _ _ some c.in-Ok.ensures (is_spent _ c.if-ne.ensures)
+          ∙ ap (λ (k : ℕ). more (l.units + q.count) (runs_done k (state q.regs c.run.new.mem))) next;
     }
 
 pub returns-after-loop-done : goal.returns-after-loop-done

@@ -1,4 +1,5 @@
 -- `kranichseil_run` refuses what is no register set; else it runs the controller, and gives its answer in plain numbers.
+use Rattle.units.proofs.RunLaws.{told_ran}
 use Rattle.mirror.proofs.AskedLaws.{runs}
 use mathlib.Core.Path.{sym, ◌∙◌}
 use Rattle.mirror.proofs.kranichseil_run.Goals as goal
@@ -10,5 +11,4 @@ pub returns : goal.returns
 returns c =
     runs _ _ _ (sym c.formed.ensures
     ∙ c.if-not-formed.false)
-    c.into.ensures c.run.ensures
-    c.into-2.ensures
+    c.into-set.ensures (told_ran c.told.ensures c.run.ensures) c.into.ensures

@@ -1,4 +1,5 @@
 -- `send_one` is the list of one entry: what its port answers, and, where it takes it, the run from there.
+use Rattle.units.proofs.RunLaws.{told_ran}
 use Rattle.sends.proofs.SendLaws.{sent_not, sent_one}
 use Rattle.sends.proofs.send_one.Goals as goal
 
@@ -8,4 +9,4 @@ returns-then-a-ne0 c = sent_not _ _ c.at_port-a.ensures c.if-a-ne0.true
 pub returns : goal.returns
 returns c =
     sent_one _ _ c.at_port-a.ensures
-    c.if-a-ne0.false c.run-q.ensures
+    c.if-a-ne0.false (told_ran c.told-q.ensures c.run.ensures)

@@ -12,8 +12,8 @@ use Rattle.units.proofs.run_on.Goals as goal
 
 pub returns-in-Some : goal.returns-in-Some
 returns-in-Some c =
-    rw c.stops.ensures (run_stops _ _ _ c.loop-n-test.true (ap reason_number (sym c.in-Some.is) ∙ c.reason.ensures)
-    (stop_some c.in-Some.why) ∙ sym c.loop-n.invariant.same)
+    run_stops _ _ _ c.loop-n-test.true (ap reason_number (sym c.in-Some.is) ∙ c.reason.ensures) (stop_some c.in-Some.why)
+    ∙ sym c.loop-n.invariant.same
 
 pub loop-n-preserved-in-Reading : goal.loop-n-preserved-in-Reading
 loop-n-preserved-in-Reading c = let l = c.loop-n in
@@ -56,4 +56,4 @@ loop-n-preserved c =
     }
 
 pub returns : goal.returns
-returns c = rw c.stops-2.ensures (run_ends _ _ _ c.loop-n-test.false ∙ sym c.loop-n.invariant.same)
+returns c = run_ends _ _ _ c.loop-n-test.false ∙ sym c.loop-n.invariant.same
