@@ -14,12 +14,14 @@ ghost use Rattle.bus.specs.Bytes.{
   turns_b,
   queued_buffer,
   held_written,
+  held,
   written_held,
   held_read,
   read_held,
+  answer_held,
 };
 
-use plain::{PlainBuffer, PlainProgress, PlainRegisters};
+use plain::{PlainBuffer, PlainProgress, PlainRegisters, PlainVideo};
 use ports::Answer;
 use registers::{Buffer, Work};
 
@@ -63,6 +65,18 @@ struct Held {
     buffer: PlainBuffer,
 }
 
+impl Held {
+    fn new(number: u8, value: u8, buffer: PlainBuffer) -> Held
+        ensures { result ≡ held number value buffer }
+    {
+        Held {
+            number,
+            value,
+            buffer,
+        }
+    }
+}
+
 // What acts on more than the buffer: RESET, and any command in read mode; and an entry past nine bits.
 fn turns(mode: u8, e: u16) -> bool
     ensures { result ≡ turns_b mode e }
@@ -83,55 +97,61 @@ fn held_written(mode: u8, b: PlainBuffer, e: u16) -> Held
     ensures { result ≡ held_written mode b e }
 {
     if mode != 0 {
-        return Held {
-            number: 4,
-            value: 0,
-            buffer: b,
-        };
+        return Held::new(4, 0, b);
     }
     if registers::PLACES <= b.count {
-        return Held {
-            number: 3,
-            value: 0,
-            buffer: b,
-        };
+        return Held::new(3, 0, b);
     }
-    let next = queue(b, e);
-    Held {
-        number: 0,
-        value: 0,
-        buffer: next,
-    }
+    Held::new(0, 0, queue(b, e))
 }
 
 // After RESET: "buffer emptied, write mode, figure or read ended where it stands, display off".
 fn reset_plain(p: PlainRegisters) -> PlainRegisters
     ensures { result ≡ reset_plain p }
 {
-    let mut n = p;
-    n.video.display = 0;
-    n.mode = 0;
-    n.buffer = processor::command::no_entries().into();
-    n.progress = PlainProgress {
-        command: 1,
-        transfer: 0,
-        next: 0,
-        low: 0,
-    };
-    n.work = Work::Idle.into();
-    n.remaining = 0;
-    n
+    PlainRegisters {
+        video: PlainVideo {
+            display: 0,
+            ..p.video
+        },
+        mode: 0,
+        buffer: processor::command::no_entries().into(),
+        progress: PlainProgress {
+            command: 1,
+            transfer: 0,
+            next: 0,
+            low: 0,
+        },
+        work: Work::Idle.into(),
+        remaining: 0,
+        ..p
+    }
 }
 
 // A command in read mode: write mode, all read data discarded and the read ended, and the command in the buffer.
 fn turned_plain(p: PlainRegisters, e: u16) -> PlainRegisters
     ensures { result ≡ turned_plain p e }
 {
-    let mut n = p;
-    n.mode = 0;
-    n.buffer = queue(processor::command::no_entries().into(), e);
-    n.work = Work::Idle.into();
-    n
+    PlainRegisters {
+        mode: 0,
+        buffer: queue(processor::command::no_entries().into(), e),
+        work: Work::Idle.into(),
+        ..p
+    }
+}
+
+// All registers but the buffer stay.
+fn answer_held(p: PlainRegisters, h: Held) -> PlainAnswer
+    ensures { result ≡ answer_held p h }
+{
+    PlainAnswer {
+        number: h.number,
+        value: h.value,
+        regs: PlainRegisters {
+            buffer: h.buffer,
+            ..p
+        },
+    }
 }
 
 fn grant(p: PlainRegisters) -> PlainAnswer
@@ -158,54 +178,38 @@ pub fn command(r: PlainRegisters, byte: u8) -> PlainAnswer
     if r.mode != 0 {
         return grant(turned_plain(r, e));
     }
-    let held = held_written(0, r.buffer, e);
-    let buffer = held.buffer;
-    let mut n = r;
-    n.buffer = buffer;
-    PlainAnswer {
-        number: held.number,
-        value: held.value,
-        regs: n,
-    }
+    answer_held(r, held_written(0, r.buffer, e))
 }
 
 // The same of a set that may be unsound, or none.
 fn written_held(p: PlainRegisters, e: u16) -> Held
     ensures { result ≡ written_held p e }
 {
-    let held = p.buffer;
     if forms::fits(p) {
-        return held_written(p.mode, held, e);
+        return held_written(p.mode, p.buffer, e);
     }
-    Held {
-        number: 1,
-        value: 0,
-        buffer: held,
-    }
+    Held::new(1, 0, p.buffer)
 }
 
 // A byte to its port, and 256 more for the command port.
 pub fn write_plain(p: PlainRegisters, e: u16) -> PlainAnswer
     ensures { result ≡ asked p (written (from_plain p) e) }
 {
-    let mut number: u8 = 0;
-    let mut n = p;
+    let mut number = 0;
+    let mut regs = p;
     if turns(p.mode, e) {
-        let given = p;
-        let a = command(given, (e % 256) as u8);
-        let regs = a.regs;
+        let a = command(p, (e % 256) as u8);
         number = a.number;
-        n = regs;
+        regs = a.regs;
     } else {
-        let held = written_held(p, e);
-        let buffer = held.buffer;
-        number = held.number;
-        n.buffer = buffer;
+        let h = written_held(p, e);
+        number = h.number;
+        regs.buffer = h.buffer;
     }
     PlainAnswer {
-        number: number,
+        number,
         value: 0,
-        regs: n,
+        regs,
     }
 }
 
@@ -227,54 +231,29 @@ fn held_read(mode: u8, b: PlainBuffer) -> Held
     ensures { result ≡ held_read mode b }
 {
     if (mode == 0) | (b.count == 0) {
-        return Held {
-            number: 5,
-            value: 0,
-            buffer: b,
-        };
+        return Held::new(5, 0, b);
     }
-    let held = Buffer::from(b);
-    let oldest = registers::oldest_of(held);
-    Held {
-        number: 0,
-        value: (oldest % 256) as u8,
-        buffer: registers::pop(held).into(),
-    }
+    let bytes = Buffer::from(b);
+    let oldest = registers::oldest_of(bytes);
+    Held::new(0, (oldest % 256) as u8, registers::pop(bytes).into())
 }
 
 // A port is read, of a set that may be unsound, or none.
 fn read_held(p: PlainRegisters, port: u8) -> Held
     ensures { result ≡ read_held p port }
 {
-    let held = p.buffer;
     if !forms::fits(p) {
-        return Held {
-            number: 1,
-            value: 0,
-            buffer: held,
-        };
+        return Held::new(1, 0, p.buffer);
     }
     if port == 0 {
-        return Held {
-            number: 0,
-            value: status_plain(p),
-            buffer: held,
-        };
+        return Held::new(0, status_plain(p), p.buffer);
     }
-    held_read(p.mode, held)
+    held_read(p.mode, p.buffer)
 }
 
 // A byte from a port: 0 the status, any other the oldest byte read.
 pub fn read_plain(p: PlainRegisters, port: u8) -> PlainAnswer
     ensures { result ≡ asked p (read_from port (from_plain p)) }
 {
-    let held = read_held(p, port);
-    let buffer = held.buffer;
-    let mut n = p;
-    n.buffer = buffer;
-    PlainAnswer {
-        number: held.number,
-        value: held.value,
-        regs: n,
-    }
+    answer_held(p, read_held(p, port))
 }

@@ -83,7 +83,7 @@ fn placed(f: Drawing, zoom: u8, m: Mode, work: Work) -> bool
 }
 
 // Kind by kind: the fields that it has no use for are 0, it is placed, and so many cycles of it are left. Each asks its own kind's count:
-// by `registers::cycles_left`, said once in `placed`, a byte at a port beside a figure took 60 instructions more (of 257).
+// by `registers::cycles_left`, said once in `placed`, the status beside a figure took 314 instructions for 267.
 fn nothing_fits(w: PlainWork, left: u64) -> bool
     ensures { result ≡ nothing_b w left }
 {
@@ -95,7 +95,7 @@ fn figure_fits(w: PlainWork, f: Drawing, zoom: u8, m: Mode, left: u64) -> bool
 {
     let spare = no_arc(w) & no_character(w) & no_reading(w);
     let figure = Work::Figure { dot: w.dot, d: w.d };
-    let cycles = registers::rest_of(registers::dots_of(f) as u64, w.dot as u64);
+    let cycles = u64::from(registers::dots_of(f).saturating_sub(w.dot));
     let inside = placed(f, zoom, m, figure) & (left == cycles);
     spare & inside
 }
@@ -138,7 +138,7 @@ fn arc_fits(w: PlainWork, f: Drawing, zoom: u8, m: Mode, left: u64) -> bool
             d2: w.d2,
         },
     };
-    let cycles = registers::rest_of(registers::arc_cycles_of(f) as u64, w.dot as u64);
+    let cycles = u64::from(registers::arc_cycles_of(f).saturating_sub(w.dot));
     let inside = placed(f, zoom, m, arc) & (left == cycles);
     spare & inside
 }

@@ -1,6 +1,7 @@
 -- The lengths of a folded memory are the powers of two from 16 to 262,144: a number with one bit set is a power of two, and each length has
 -- one bit set.
-use Rattle.std.proofs.Common.{◌≡◌, ℕ, zero, suc, ◌+◌, ◌*◌, ◌/◌, ◌%◌, ◌^◌, ◌<◌, ◌≤◌, Bool, true, false, cond, ◌&&◌, ◌||◌, refl, sym, subst, arith, count_ones}
+use Rattle.std.proofs.Common.{◌≡◌, ℕ, zero, suc, ◌*◌, ◌/◌, ◌%◌, ◌^◌, ◌<◌, ◌≤◌, Bool, true, false, cond, ◌&&◌, ◌||◌, refl, sym, subst, arith}
+use Rattle.std.proofs.Common.{count_ones}
 use Rattle.std.specs.Int.{is_power_of_two}
 use Rattle.std.proofs.lemmas.Nat.{ones_le_self, zero_from_ones}
 use native.Mathlib.Decide.{ℕ_discrete}
@@ -9,7 +10,7 @@ use lib.Count.{ones_step}
 use Rattle.std.proofs.Math.Nat.{pow-succ'}
 use lib.Dec.{T, leb, eqb, eqb→eq, leb→le}
 use Rattle.dots.specs.declared.Wiring.TheVariants.{Folded}
-use Rattle.dots.proofs.Below.{all_below, below}
+use Rattle.dots.proofs.Below.{below}
 use Rattle.registers.proofs.BoolLaws.{and_left, and_right}
 use Rattle.units.specs.Run.{length_b}
 
@@ -73,8 +74,11 @@ folded_fits n = both_ways (fits n) (length_b Folded n) to from
 
     from : length_b Folded n ≡ true → fits n ≡ true
     from e =
-        or_else _ _ e (λ e. or_else _ _ e (λ e. or_else _ _ e (λ e. or_else _ _ e (λ e. or_else _ _ e (λ e. or_else _ _ e (λ e. or_else _ _ e
-        (λ e. or_else _ _ e (λ e. or_else _ _ e (λ e. or_else _ _ e (λ e. or_else _ _ e (λ e. or_else _ _ e (λ e. or_else _ _ e (λ e. or_else _ _ e
-        (fits_at n 16 tt) (fits_at n 32 tt)) (fits_at n 64 tt)) (fits_at n 128 tt)) (fits_at n 256 tt)) (fits_at n 512 tt)) (fits_at n 1024 tt))
+        or_else _ _ e
+        (λ e. or_else _ _ e (λ e. or_else _ _ e (λ e. or_else _ _ e (λ e. or_else _ _ e (λ e. or_else _ _ e (λ e. or_else _ _ e
+        (λ e. or_else _ _ e
+        (λ e. or_else _ _ e (λ e. or_else _ _ e (λ e. or_else _ _ e (λ e. or_else _ _ e (λ e. or_else _ _ e (λ e. or_else _ _ e
+        (fits_at n 16 tt) (fits_at n 32 tt)) (fits_at n 64 tt)) (fits_at n 128 tt)) (fits_at n 256 tt)) (fits_at n 512 tt))
+        (fits_at n 1024 tt))
         (fits_at n 2048 tt)) (fits_at n 4096 tt)) (fits_at n 8192 tt)) (fits_at n 16384 tt)) (fits_at n 32768 tt)) (fits_at n 65536 tt))
         (fits_at n 131072 tt)) (fits_at n 262144 tt)

@@ -27,7 +27,7 @@ returns-then-r-ne0 c =
 pub returns : goal.returns
 returns c =
     let a = c.args in
-    ap (answer_held a.r) c.held_written-held.ensures
+    c.answer_held.ensures ∙ ap (answer_held a.r) c.held_written.ensures
     ∙ queues a.r a.byte (sym c.fits.ensures
     ∙ c.if-not-fits.false) c.if-byte-eq0.false
     c.if-r-ne0.false

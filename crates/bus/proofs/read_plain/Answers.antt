@@ -7,4 +7,4 @@ use Rattle.bus.proofs.read_plain.Goals as goal
 pub returns : goal.returns
 returns c =
     let a = c.args in
-    ap (answer_held a.p) c.read_held-held.ensures ∙ reads a.p a.port
+    c.answer_held.ensures ∙ ap (answer_held a.p) c.read_held.ensures ∙ reads a.p a.port

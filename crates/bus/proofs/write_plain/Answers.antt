@@ -14,4 +14,4 @@ pub returns-else-turns : goal.returns-else-turns
 returns-else-turns c =
     let a = c.args in
     writes a.p a.e (sym c.turns.ensures ∙ c.if-turns.false)
-    c.written_held-held.ensures
+    c.written_held-h.ensures

@@ -1,5 +1,4 @@
 -- `length_right` is the definition, wiring by wiring.
-use mathlib.Core.Path.{◌∙◌}
 use Rattle.units.specs.Run.{length_b}
 use Rattle.units.proofs.PowerLaws.{folded_fits}
 use Rattle.units.proofs.length_right.Goals as goal
