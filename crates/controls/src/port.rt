@@ -1,16 +1,18 @@
 // The lines to the ports.
 ghost use Rattle.std.specs.Prelude.{◌≡◌};
+ghost use Rattle.ports.specs.Answered.{answered};
 ghost use Rattle.controls.specs.Port.{number_told, byte_told, status_told, port_done};
 
 use console::desk::{Done, Reply};
 use orders::Port;
-use ports::Answer;
+use ports::{Granted, Refusal};
 use registers::Registers;
 
 // `C`, `P`, `L`: the number of the port's refusal.
-fn numbered(letter: u8, a: Answer) -> Done
-    ensures { result ≡ number_told letter a }
+fn numbered(letter: u8, r: Registers, a: Result<Granted, Refusal>) -> Done
+    ensures { result ≡ number_told letter (answered r a) }
 {
+    let a = ports::told(r, a);
     Done {
         regs: a.regs,
         reply: Reply::One(letter, a.number as u64),
@@ -18,9 +20,10 @@ fn numbered(letter: u8, a: Answer) -> Done
 }
 
 // `R`: the number and the byte.
-fn byte_read(a: Answer) -> Done
-    ensures { result ≡ byte_told a }
+fn byte_read(r: Registers, a: Result<Granted, Refusal>) -> Done
+    ensures { result ≡ byte_told (answered r a) }
 {
+    let a = ports::told(r, a);
     Done {
         regs: a.regs,
         reply: Reply::Two(b'R', a.number as u64, a.value as u64),
@@ -28,9 +31,10 @@ fn byte_read(a: Answer) -> Done
 }
 
 // `S`: the status.
-fn status_read(a: Answer) -> Done
-    ensures { result ≡ status_told a }
+fn status_read(r: Registers, a: Result<Granted, Refusal>) -> Done
+    ensures { result ≡ status_told (answered r a) }
 {
+    let a = ports::told(r, a);
     Done {
         regs: a.regs,
         reply: Reply::One(b'S', a.value as u64),
@@ -43,10 +47,10 @@ pub fn port_done(r: Registers, p: Port) -> Done
     ensures { result ≡ port_done r p }
 {
     match p {
-        Port::Command(b) => numbered(b'C', ports::write_command(r, b)),
-        Port::Parameter(b) => numbered(b'P', ports::write_parameter(r, b)),
-        Port::Pen(a) => numbered(b'L', ports::post_pen(r, a)),
-        Port::Read => byte_read(ports::read_byte(r)),
-        Port::Status => status_read(ports::read_status(r)),
+        Port::Command(b) => numbered(b'C', r, ports::write_command(r, b)),
+        Port::Parameter(b) => numbered(b'P', r, ports::write_parameter(r, b)),
+        Port::Pen(a) => numbered(b'L', r, ports::post_pen(r, a)),
+        Port::Read => byte_read(r, ports::read_byte(r)),
+        Port::Status => status_read(r, ports::read_status(r)),
     }
 }

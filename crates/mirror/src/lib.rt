@@ -7,6 +7,7 @@ ghost use Rattle.registers.specs.Fresh.{fresh_set};
 ghost use Rattle.registers.specs.State.{state};
 ghost use Rattle.units.specs.Run.{run_done};
 ghost use Rattle.ports.specs.Port.{command_written, parameter_written, byte_read, status_read, pen_posted};
+ghost use Rattle.ports.specs.Answered.{answered};
 ghost use Rattle.sending.specs.Send.{written};
 ghost use Rattle.sends.specs.Sends.{list_sent};
 ghost use Rattle.sheets.specs.Sheet.{translate_def};
@@ -19,7 +20,8 @@ ghost use Rattle.mirror.specs.Asked.{delivered, sent_on, sent_plain, tally_of, t
 
 use bus::PlainAnswer;
 use plain::PlainRegisters;
-use ports::Answer;
+use ports::{Granted, Refusal};
+use registers::Registers;
 use sends::Listed;
 use units::Ran;
 
@@ -159,12 +161,12 @@ pub fn kranichseil_fresh() -> PlainRegisters
     registers::fresh().into()
 }
 
-// What a port answers that was asked with a set; what is no register set is refused.
-fn asked(p: PlainRegisters, a: Answer) -> PlainAnswer
-    ensures { result ≡ asked p a }
+// What a port answers that was asked with a set, read as the registers r; what is no register set is refused.
+fn asked(p: PlainRegisters, r: Registers, a: Result<Granted, Refusal>) -> PlainAnswer
+    ensures { result ≡ asked p (answered r a) }
 {
     if forms::formed(p) {
-        return a.into();
+        return ports::told(r, a).into();
     }
     bus::refuse(p)
 }
@@ -180,28 +182,32 @@ pub fn kranichseil_command(r: PlainRegisters, byte: u8) -> PlainAnswer
 pub fn kranichseil_parameter(r: PlainRegisters, byte: u8) -> PlainAnswer
     ensures { result ≡ asked r (parameter_written (from_plain r) byte) }
 {
-    asked(r, ports::write_parameter(r.into(), byte))
+    let regs = r.into();
+    asked(r, regs, ports::write_parameter(regs, byte))
 }
 
 // A byte is read.
 pub fn kranichseil_read(r: PlainRegisters) -> PlainAnswer
     ensures { result ≡ asked r (byte_read (from_plain r)) }
 {
-    asked(r, ports::read_byte(r.into()))
+    let regs = r.into();
+    asked(r, regs, ports::read_byte(regs))
 }
 
 // The status is read.
 pub fn kranichseil_status(r: PlainRegisters) -> PlainAnswer
     ensures { result ≡ asked r (status_read (from_plain r)) }
 {
-    asked(r, ports::read_status(r.into()))
+    let regs = r.into();
+    asked(r, regs, ports::read_status(regs))
 }
 
 // A light-pen address is posted.
 pub fn kranichseil_pen(r: PlainRegisters, address: u32) -> PlainAnswer
     ensures { result ≡ asked r (pen_posted (from_plain r) address) }
 {
-    asked(r, ports::post_pen(r.into(), address))
+    let regs = r.into();
+    asked(r, regs, ports::post_pen(regs, address))
 }
 
 // A byte to a port of the registers where they stand.

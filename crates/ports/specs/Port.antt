@@ -1,11 +1,9 @@
 -- 01, Ports: a byte to the command port, to the parameter port, a byte read, the status, the light pen; with the refusals.
-use Rattle.std.specs.Prelude.{ℕ, zero, suc, ◌+◌, ◌*◌, ◌%◌, Bool, true, false, cond, ◌&&◌, eqb, ltb, leb}
+use Rattle.std.specs.Prelude.{ℕ, ◌+◌, ◌%◌, true, cond, eqb, leb}
 use Rattle.dots.specs.Step.{addresses}
 use Rattle.registers.specs.declared.Mode.{Mode}
 use Rattle.registers.specs.declared.Mode.TheVariants.{Write, Read}
-use Rattle.registers.specs.declared.Work.{Work}
-use Rattle.registers.specs.declared.Work.TheVariants.{Idle, Figure, Character, Reading}
-use Rattle.registers.specs.declared.Buffer.{Buffer}
+use Rattle.registers.specs.declared.Work.TheVariants.{Idle}
 use Rattle.registers.specs.declared.Registers.{Registers}
 use Rattle.registers.specs.Width.{places, command_mark}
 use Rattle.registers.specs.Fresh.{empty_buffer}

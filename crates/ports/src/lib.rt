@@ -1,13 +1,14 @@
 // The two ports, the status read at one, and the light pen.
 #![tactic(auto)]
 
-ghost use Rattle.std.specs.Prelude.{◌≡◌, ◌&&◌, ◌+◌, ◌*◌, eqb, ltb};
+ghost use Rattle.std.specs.Prelude.{◌≡◌, ◌&&◌, ◌+◌, ◌*◌, eqb, ltb, cond, Ok, Err};
 ghost use Rattle.registers.specs.Width.{places};
+ghost use Rattle.registers.specs.Sound.{sound_b};
 ghost use Rattle.registers.specs.Put.{put_buffer};
 ghost use Rattle.registers.specs.Buffer.{popped};
+ghost use Rattle.ports.specs.declared.Refusal.TheVariants.{Unsound};
+ghost use Rattle.ports.specs.Answered.{refusal_number, answered};
 ghost use Rattle.ports.specs.Port.{
-  granted,
-  refused,
   queued,
   turned_back,
   queued_or3,
@@ -24,7 +25,24 @@ ghost use Rattle.ports.specs.Port.{
 
 use registers::{Mode, Pen, Registers, Work};
 
-// What a port answers: a number of refusal, the byte read, and the registers.
+// Why a port refuses: the set is unsound; the buffer is full; a parameter byte in read mode; no byte to give; a pen address too large.
+#[derive(Clone, Copy, PartialEq, Eq)]
+pub enum Refusal {
+    Unsound,
+    Full,
+    Reading,
+    NoByte,
+    PenAddress,
+}
+
+// What a port grants: the byte read, and the registers.
+#[derive(Clone, Copy)]
+pub struct Granted {
+    pub value: u8,
+    pub regs: Registers,
+}
+
+// An answer in numbers, as it is printed and as C has it: a number of refusal or 0, the byte read, and the registers.
 #[derive(Clone, Copy)]
 pub struct Answer {
     pub number: u8,
@@ -32,24 +50,47 @@ pub struct Answer {
     pub regs: Registers,
 }
 
-fn grant(value: u8, regs: Registers) -> Answer
-    ensures { result ≡ granted value regs }
-{
-    Answer {
-        number: 0,
-        value,
-        regs,
+impl Refusal {
+    // The number of a refusal.
+    pub fn number(self) -> u8
+        ensures { result ≡ refusal_number self }
+    {
+        match self {
+            Refusal::Unsound => 1,
+            Refusal::Full => 3,
+            Refusal::Reading => 4,
+            Refusal::NoByte => 5,
+            Refusal::PenAddress => 6,
+        }
     }
 }
 
-// A refusal: the set given, and 0.
-fn refuse(number: u8, regs: Registers) -> Answer
-    ensures { result ≡ refused number regs }
+// A port's answer in numbers; a refusal's has the set given, and 0.
+pub fn told(given: Registers, a: Result<Granted, Refusal>) -> Answer
+    ensures { result ≡ answered given a }
 {
-    Answer {
-        number,
-        value: 0,
-        regs,
+    match a {
+        Ok(Granted { value, regs }) => Answer {
+            number: 0,
+            value,
+            regs,
+        },
+        Err(why) => Answer {
+            number: why.number(),
+            value: 0,
+            regs: given,
+        },
+    }
+}
+
+// Only a sound set is accepted.
+fn accepted(r: Registers) -> Result<(), Refusal>
+    ensures { result ≡ cond (sound_b r) (Ok tt) (Err Unsound) }
+{
+    if registers::sound(r) {
+        Ok(())
+    } else {
+        Err(Refusal::Unsound)
     }
 }
 
@@ -77,58 +118,60 @@ fn turn_back(r: Registers) -> Registers
 
 // An entry is queued where there is room.
 #[tactic(auto, unfolding(crate::specs::Port::queued_or3))]
-fn queue_or_3(r: Registers, e: u16) -> Answer
-    ensures { result ≡ queued_or3 r e }
+fn queue_where_room(r: Registers, e: u16) -> Result<Granted, Refusal>
+    ensures { answered r result ≡ queued_or3 r e }
 {
     if registers::PLACES <= r.buffer.count {
-        return refuse(3, r);
+        return Err(Refusal::Full);
     }
-    grant(0, queue(r, e))
+    Ok(Granted {
+        value: 0,
+        regs: queue(r, e),
+    })
 }
 
-fn command_in(r: Registers, byte: u8) -> Answer
-    ensures { result ≡ command_in r.mode r byte }
+fn command_in(r: Registers, byte: u8) -> Result<Granted, Refusal>
+    ensures { answered r result ≡ command_in r.mode r byte }
 {
     match r.mode {
-        Mode::Write => queue_or_3(r, byte as u16 + registers::COMMAND_MARK),
-        Mode::Read => grant(
-            0,
-            queue(turn_back(r), byte as u16 + registers::COMMAND_MARK),
-        ),
+        Mode::Write => queue_where_room(r, byte as u16 + registers::COMMAND_MARK),
+        Mode::Read => Ok(Granted {
+            value: 0,
+            regs: queue(turn_back(r), byte as u16 + registers::COMMAND_MARK),
+        }),
     }
 }
 
 // A byte to the command port.
 #[tactic(auto, unfolding(crate::specs::Port::command_written))]
-pub fn write_command(r: Registers, byte: u8) -> Answer
-    ensures { result ≡ command_written r byte }
+pub fn write_command(r: Registers, byte: u8) -> Result<Granted, Refusal>
+    ensures { answered r result ≡ command_written r byte }
 {
-    if !registers::sound(r) {
-        return refuse(1, r);
-    }
+    accepted(r)?;
     if byte == 0 {
-        return grant(0, processor::command::reset_done(r));
+        return Ok(Granted {
+            value: 0,
+            regs: processor::command::reset_done(r),
+        });
     }
     command_in(r, byte)
 }
 
-fn parameter_in(r: Registers, byte: u8) -> Answer
-    ensures { result ≡ parameter_in r.mode r byte }
+fn parameter_in(r: Registers, byte: u8) -> Result<Granted, Refusal>
+    ensures { answered r result ≡ parameter_in r.mode r byte }
 {
     match r.mode {
-        Mode::Write => queue_or_3(r, byte as u16),
-        Mode::Read => refuse(4, r),
+        Mode::Write => queue_where_room(r, byte as u16),
+        Mode::Read => Err(Refusal::Reading),
     }
 }
 
 // A byte to the parameter port.
 #[tactic(auto, unfolding(crate::specs::Port::parameter_written))]
-pub fn write_parameter(r: Registers, byte: u8) -> Answer
-    ensures { result ≡ parameter_written r byte }
+pub fn write_parameter(r: Registers, byte: u8) -> Result<Granted, Refusal>
+    ensures { answered r result ≡ parameter_written r byte }
 {
-    if !registers::sound(r) {
-        return refuse(1, r);
-    }
+    accepted(r)?;
     parameter_in(r, byte)
 }
 
@@ -142,38 +185,40 @@ fn drop_oldest(r: Registers) -> Registers
     }
 }
 
-fn byte_in(r: Registers) -> Answer
-    ensures { result ≡ byte_in r.mode r }
+fn byte_in(r: Registers) -> Result<Granted, Refusal>
+    ensures { answered r result ≡ byte_in r.mode r }
 {
     match r.mode {
         Mode::Read if 0 < r.buffer.count => {
             let oldest = registers::oldest_of(r.buffer);
-            grant((oldest % 256) as u8, drop_oldest(r))
+            Ok(Granted {
+                value: (oldest % 256) as u8,
+                regs: drop_oldest(r),
+            })
         }
-        Mode::Read | Mode::Write => refuse(5, r),
+        Mode::Read | Mode::Write => Err(Refusal::NoByte),
     }
 }
 
 // A byte is read.
 #[tactic(auto, unfolding(crate::specs::Port::byte_read))]
-pub fn read_byte(r: Registers) -> Answer
-    ensures { result ≡ byte_read r }
+pub fn read_byte(r: Registers) -> Result<Granted, Refusal>
+    ensures { answered r result ≡ byte_read r }
 {
-    if !registers::sound(r) {
-        return refuse(1, r);
-    }
+    accepted(r)?;
     byte_in(r)
 }
 
 // The status is read.
 #[tactic(auto, unfolding(crate::specs::Port::status_read))]
-pub fn read_status(r: Registers) -> Answer
-    ensures { result ≡ status_read r }
+pub fn read_status(r: Registers) -> Result<Granted, Refusal>
+    ensures { answered r result ≡ status_read r }
 {
-    if !registers::sound(r) {
-        return refuse(1, r);
-    }
-    grant(status::status_of(r), r)
+    accepted(r)?;
+    Ok(Granted {
+        value: status::status_of(r),
+        regs: r,
+    })
 }
 
 // The light pen's address, as news.
@@ -188,14 +233,15 @@ fn put_pen(r: Registers, address: u32) -> Registers
 
 // A light-pen address is posted.
 #[tactic(auto, unfolding(crate::specs::Port::pen_posted))]
-pub fn post_pen(r: Registers, address: u32) -> Answer
-    ensures { result ≡ pen_posted r address }
+pub fn post_pen(r: Registers, address: u32) -> Result<Granted, Refusal>
+    ensures { answered r result ≡ pen_posted r address }
 {
-    if !registers::sound(r) {
-        return refuse(1, r);
-    }
+    accepted(r)?;
     if dots::ADDRESSES <= address {
-        return refuse(6, r);
+        return Err(Refusal::PenAddress);
     }
-    grant(0, put_pen(r, address))
+    Ok(Granted {
+        value: 0,
+        regs: put_pen(r, address),
+    })
 }

@@ -50,16 +50,17 @@ fn replay_on(r: Registers, events: &[u64], mem: &mut [u16]) -> Replayed
     let mut units: u64 = 0;
     for (k, &e) in events.iter().enumerate() {
         if e < UNITS_MARK {
-            let a = sends::at_port(s, e);
-            if a.number != 0 {
-                return Replayed {
-                    number: a.number,
-                    taken: k as u64,
-                    units,
-                    regs: s,
-                };
+            match sends::at_port(s, e) {
+                Ok(a) => s = a.regs,
+                Err(why) => {
+                    return Replayed {
+                        number: why.number(),
+                        taken: k as u64,
+                        units,
+                        regs: s,
+                    };
+                }
             }
-            s = a.regs;
         } else {
             let q = run_event(s, e, mem);
             units += q.units;

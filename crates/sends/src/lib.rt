@@ -3,11 +3,12 @@
 
 ghost use Rattle.std.specs.Prelude.{◌≡◌, [], ◌∷◌};
 ghost use Rattle.registers.specs.State.{state};
+ghost use Rattle.ports.specs.Answered.{answered};
 ghost use Rattle.sending.specs.Send.{written};
 ghost use Rattle.sends.specs.Sends.{listed, list_taken};
 ghost use Rattle.sends.specs.Once.{idle_b, at_once_b};
 
-use ports::Answer;
+use ports::{Granted, Refusal};
 use registers::{Mode, Registers, Work};
 
 // What a list of entries is answered with: the number of refusal, how many entries were taken, the units that their runs reported, and
@@ -21,8 +22,8 @@ pub struct Listed {
 }
 
 // An entry goes to its port: a byte, and 256 more for a command.
-pub fn at_port(r: Registers, e: u64) -> Answer
-    ensures { result ≡ written r e }
+pub fn at_port(r: Registers, e: u64) -> Result<Granted, Refusal>
+    ensures { answered r result ≡ written r e }
 {
     let byte = (e % 256) as u8;
     if e < 256 {
@@ -35,22 +36,24 @@ pub fn at_port(r: Registers, e: u64) -> Answer
 pub fn to_port(r: Registers, e: u16) -> Registers
     ensures { result ≡ (written r e).regs }
 {
-    at_port(r, e as u64).regs
+    at_port(r, e as u64).map_or(r, |a| a.regs)
 }
 
 // One entry, and the run after it, unless its port refuses it.
 pub fn send_one(r: Registers, e: u16, mem: &mut [u16]) -> Listed
     ensures { listed result mem.new ≡ list_taken (state r mem.old) (e ∷ []) }
 {
-    let a = at_port(r, e as u64);
-    if a.number != 0 {
-        return Listed {
-            number: a.number,
-            taken: 0,
-            units: 0,
-            regs: r,
-        };
-    }
+    let a = match at_port(r, e as u64) {
+        Ok(a) => a,
+        Err(why) => {
+            return Listed {
+                number: why.number(),
+                taken: 0,
+                units: 0,
+                regs: r,
+            };
+        }
+    };
     let q = units::told(a.regs, units::run(a.regs, mem, u32::MAX));
     Listed {
         number: 0,

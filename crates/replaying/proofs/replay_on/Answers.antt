@@ -5,20 +5,22 @@ use native.Mathlib.Omega.{arith}
 use mathlib.Core.Path.{◌≡◌, refl, ap, ◌∙◌}
 use lib.ListN.{length}
 use Rattle.registers.specs.State.{state}
+use Rattle.ports.proofs.AnsweredLaws.{refusal_some}
 use Rattle.replaying.proofs.EventLaws.{entry_done, run_done_law}
 use Rattle.replaying.proofs.ListLaws.{behind_none, ended, goes_out, units_most, goes_no_further, goes_on}
 use Rattle.replaying.proofs.replay_on.Goals as goal
-use Rattle.replaying.proofs.replay_on.Goals.{then-e-lt-UNITS_MARK+else-a-ne0, else-e-lt-UNITS_MARK}
+use Rattle.replaying.proofs.replay_on.Goals.{then-e-lt-UNITS_MARK+in-Ok, else-e-lt-UNITS_MARK}
 
 pub loop-k-init : goal.loop-k-init
 loop-k-init c = record { short = c.requires; within = omega arith; few = omega arith; long = refl; rest = behind_none _ }
 
-pub returns-then-a-ne0 : goal.returns-then-a-ne0
-returns-then-a-ne0 c =
-    goes_no_further c.loop-k.invariant
+pub returns-in-Err : goal.returns-in-Err
+returns-in-Err c =
+    rw c.number.ensures
+    (goes_no_further c.loop-k.invariant
     c.loop-k-test.true
-    (entry_done _ _ c.if-e-lt-UNITS_MARK.true c.at_port-a.ensures)
-    c.if-a-ne0.true
+    (entry_done _ _ c.if-e-lt-UNITS_MARK.true c.in-Err.ensures)
+    (refusal_some _))
 
 pub overflow_add-units : goal.overflow_add-units
 overflow_add-units c =
@@ -32,10 +34,10 @@ overflow_add-units c =
 pub loop-k-preserved : goal.loop-k-preserved
 loop-k-preserved c =
     elim c.if-e-lt-UNITS_MARK.branch [
-      | then-e-lt-UNITS_MARK+else-a-ne0 w ↦ rw (w.units-is, w.s-is, w.mem-is)
+      | then-e-lt-UNITS_MARK+in-Ok w ↦ rw (w.units-is, w.s-is, w.mem-is)
           (goes_on c.loop-k.invariant c.loop-k-test.true
-          (entry_done _ _ w.if-e-lt-UNITS_MARK.true w.at_port-a.ensures)
-          w.if-a-ne0.false refl (omega arith))
+          (entry_done _ _ w.if-e-lt-UNITS_MARK.true w.in-Ok.ensures)
+          refl refl (omega arith))
       | else-e-lt-UNITS_MARK w ↦ rw (w.units-is, w.s-is, w.mem-is)
           (goes_on c.loop-k.invariant c.loop-k-test.true
           (run_done_law _ _ w.if-e-lt-UNITS_MARK.false w.run_event-q.ensures)
