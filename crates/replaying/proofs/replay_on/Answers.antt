@@ -32,14 +32,15 @@ overflow_add-units c =
 pub loop-k-preserved : goal.loop-k-preserved
 loop-k-preserved c =
     elim c.if-e-lt-UNITS_MARK.branch [
-      then-e-lt-UNITS_MARK+else-a-ne0 w ↦ rw (w.units-is, w.s-is, w.mem-is)
+      | then-e-lt-UNITS_MARK+else-a-ne0 w ↦ rw (w.units-is, w.s-is, w.mem-is)
           (goes_on c.loop-k.invariant c.loop-k-test.true
           (entry_done _ _ w.if-e-lt-UNITS_MARK.true w.at_port-a.ensures)
           w.if-a-ne0.false refl (omega arith))
-    | else-e-lt-UNITS_MARK w ↦ rw (w.units-is, w.s-is, w.mem-is)
+      | else-e-lt-UNITS_MARK w ↦ rw (w.units-is, w.s-is, w.mem-is)
           (goes_on c.loop-k.invariant c.loop-k-test.true
           (run_done_law _ _ w.if-e-lt-UNITS_MARK.false w.run_event-q.ensures)
-          refl w.run_event-q.auto.mem refl) ]
+          refl w.run_event-q.auto.mem refl)
+    ]
 
 pub returns : goal.returns
 returns c =
