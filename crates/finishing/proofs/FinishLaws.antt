@@ -167,11 +167,13 @@ module _ (u f : ℕ) (s : State) (some : 0 < f) {o : RunOutcome} (ran : o ≡ ru
   ends y = one_run false (ne_eqb o.ran.why 1 y)
 
 -- a run that is refused does no unit and leaves all as it was: it is the last one too
-pub refused_ends : (u f : ℕ) (s : State) → 0 < f → {n : ℕ} {m : List ℕ} → run_outcome (record { number = n; count = 0; why = 0; regs = s.regs }) m ≡ run_done 4294967295 s
+pub refused_ends : (u f : ℕ) (s : State) → 0 < f → {n : ℕ} {m : List ℕ}
+    → run_outcome (record { number = n; count = 0; why = 0; regs = s.regs }) m ≡ run_done 4294967295 s
     → outcome (record { regs = s.regs; units = u }) m ≡ more u (runs_done f s)
 refused_ends u f s some {n} {m} ran =
     let e : u ≡ u + 0 = omega arith in
-    no_run u (state s.regs m) ∙ ap (λ (k : ℕ). more k (runs_done 0 (state s.regs m))) e ∙ sym (ends u f s some ran (λ y. absurd (omega arith)))
+    no_run u (state s.regs m) ∙ ap (λ (k : ℕ). more k (runs_done 0 (state s.regs m))) e
+        ∙ sym (ends u f s some ran (λ y. absurd (omega arith)))
 
 -- the code's test whether the budget is spent is that of the number
 pub is_spent : (w : Stop) → false ≡ not (sameb the_type w Spent) → stop_number w ≡ 1
