@@ -134,17 +134,14 @@ fn turned_plain(p: PlainRegisters, e: u16) -> PlainRegisters
 fn answer_held(p: PlainRegisters, a: Result<Kept, Refusal>) -> PlainAnswer
     ensures { result ≡ answer_held p (kept p.buffer a) }
 {
-    match a {
-        Ok(Kept { value, buffer }) => PlainAnswer {
-            number: 0,
-            value,
-            regs: PlainRegisters { buffer, ..p },
-        },
-        Err(why) => PlainAnswer {
-            number: why.number(),
-            value: 0,
-            regs: p,
-        },
+    let (number, value, buffer) = match a {
+        Ok(Kept { value, buffer }) => (0, value, buffer),
+        Err(why) => (why.number(), 0, p.buffer),
+    };
+    PlainAnswer {
+        number,
+        value,
+        regs: PlainRegisters { buffer, ..p },
     }
 }
 

@@ -1,6 +1,5 @@
 -- A refusal of a port is never number 0. True by its cases.
 use mathlib.Core.Path.{◌≡◌}
-use Prim.Native.Nat.{ℕ}
 use native.Mathlib.Omega.{arith}
 use Rattle.ports.specs.declared.Refusal.{Refusal}
 use Rattle.ports.specs.declared.Refusal.TheVariants.{Unsound, Full, Reading, NoByte, PenAddress}
