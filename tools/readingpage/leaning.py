@@ -41,6 +41,8 @@ def imported(module, name, where):
     if not own or not os.path.isdir(os.path.join(TOP, 'crates', own[1])):
         return f'{module}.{name}'
     crate, folder, rest = own.groups()
+    if folder == 'specs' and rest.startswith('contracts.'):  # made by the check, of a type's own text
+        return f'{module}.{name}'
     if rest.startswith('declared.'):
         parts = [p for p in rest.split('.')[1:] if p != 'TheVariants']
         one = rust_type(crate, parts, where)

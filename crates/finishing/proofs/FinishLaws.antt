@@ -173,7 +173,7 @@ pub refused_ends : (u f : ℕ) (s : State) → 0 < f → {n : ℕ} {m : List ℕ
 refused_ends u f s some {n} {m} ran =
     let e : u ≡ u + 0 = omega arith in
     no_run u (state s.regs m) ∙ ap (λ (k : ℕ). more k (runs_done 0 (state s.regs m))) e
-        ∙ sym (ends u f s some ran (λ y. absurd (omega arith)))
+    ∙ sym (ends u f s some ran (λ y. absurd (omega arith)))
 
 -- the code's test whether the budget is spent is that of the number
 pub is_spent : (w : Stop) → false ≡ not (sameb the_type w Spent) → stop_number w ≡ 1
