@@ -21,6 +21,7 @@ ghost use Rattle.mirror.specs.Asked.{delivered, sent_on, sent_plain, tally_of, t
 use bus::PlainAnswer;
 use plain::PlainRegisters;
 use ports::{Granted, Refusal};
+use registers::Registers;
 use sends::Listed;
 use units::Ran;
 
@@ -160,25 +161,14 @@ pub fn kranichseil_fresh() -> PlainRegisters
     registers::fresh().into()
 }
 
-// What a port answers that was asked with a set; what is no register set is refused, and a refusal answers the set given.
-fn asked(p: PlainRegisters, a: Result<Granted, Refusal>) -> PlainAnswer
-    ensures { result ≡ asked p (answered (from_plain p) a) }
+// What a port answers that was asked with a set, read as the registers r; what is no register set is refused.
+fn asked(p: PlainRegisters, r: Registers, a: Result<Granted, Refusal>) -> PlainAnswer
+    ensures { result ≡ asked p (answered r a) }
 {
-    if !forms::formed(p) {
-        return bus::refuse(p);
+    if forms::formed(p) {
+        return ports::told(r, a).into();
     }
-    match a {
-        Ok(Granted { value, regs }) => PlainAnswer {
-            number: 0,
-            value,
-            regs: regs.into(),
-        },
-        Err(why) => PlainAnswer {
-            number: why.number(),
-            value: 0,
-            regs: p,
-        },
-    }
+    bus::refuse(p)
 }
 
 // A byte to the command port.
@@ -192,28 +182,32 @@ pub fn kranichseil_command(r: PlainRegisters, byte: u8) -> PlainAnswer
 pub fn kranichseil_parameter(r: PlainRegisters, byte: u8) -> PlainAnswer
     ensures { result ≡ asked r (parameter_written (from_plain r) byte) }
 {
-    asked(r, ports::write_parameter(r.into(), byte))
+    let regs = r.into();
+    asked(r, regs, ports::write_parameter(regs, byte))
 }
 
 // A byte is read.
 pub fn kranichseil_read(r: PlainRegisters) -> PlainAnswer
     ensures { result ≡ asked r (byte_read (from_plain r)) }
 {
-    asked(r, ports::read_byte(r.into()))
+    let regs = r.into();
+    asked(r, regs, ports::read_byte(regs))
 }
 
 // The status is read.
 pub fn kranichseil_status(r: PlainRegisters) -> PlainAnswer
     ensures { result ≡ asked r (status_read (from_plain r)) }
 {
-    asked(r, ports::read_status(r.into()))
+    let regs = r.into();
+    asked(r, regs, ports::read_status(regs))
 }
 
 // A light-pen address is posted.
 pub fn kranichseil_pen(r: PlainRegisters, address: u32) -> PlainAnswer
     ensures { result ≡ asked r (pen_posted (from_plain r) address) }
 {
-    asked(r, ports::post_pen(r.into(), address))
+    let regs = r.into();
+    asked(r, regs, ports::post_pen(regs, address))
 }
 
 // A byte to a port of the registers where they stand.
