@@ -29,8 +29,9 @@ use Rattle.plain.specs.Form.{plain_form_b}
 use Rattle.plain.specs.Mirror.{from_plain, to_plain}
 use Rattle.plain.proofs.MirrorLaws.{to_from}
 use Rattle.bus.specs.declared.PlainAnswer.{PlainAnswer}
+use Rattle.bus.specs.declared.Held.{Held}
 use Rattle.bus.specs.Asked.{answer_plain, refused_plain, asked, read_from}
-use Rattle.bus.specs.Bytes.{Held, turns_b, held, queued_buffer, queued_held, held_written, fit_b, written_held, held_read, read_held}
+use Rattle.bus.specs.Bytes.{turns_b, held, queued_buffer, queued_held, held_written, fit_b, written_held, held_read, read_held}
 use Rattle.bus.specs.Bytes.{with_buffer, answer_held, granted_plain, reset_plain, turned_plain, command_plain}
 
 -- ---- the set itself, and the set with another buffer

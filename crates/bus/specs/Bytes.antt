@@ -1,13 +1,11 @@
 -- A byte to a port and from one, of the plain numbers: what is answered, and the buffer then, where nothing else changes.
-use Rattle.std.specs.Prelude.{ℕ, Result, Ok, Err, ◌+◌, ◌%◌, Bool, false, cond, not, ◌&&◌, ◌||◌, eqb, ltb, leb}
+use Rattle.std.specs.Prelude.{ℕ, ◌+◌, ◌%◌, Bool, false, cond, not, ◌&&◌, ◌||◌, eqb, ltb, leb}
 use Rattle.registers.specs.declared.Work.TheVariants.{Idle}
 use Rattle.registers.specs.Width.{places, command_mark}
 use Rattle.registers.specs.Fresh.{empty_buffer}
 use Rattle.registers.specs.Sound.{sound_b}
 use Rattle.registers.specs.Buffer.{pushed, oldest, popped}
 use Rattle.status.specs.Status.{status_of}
-use Rattle.ports.specs.declared.Refusal.{Refusal}
-use Rattle.ports.specs.Answered.{refusal_number}
 use Rattle.plain.specs.declared.PlainBuffer.{PlainBuffer}
 use Rattle.plain.specs.declared.PlainVideo.{PlainVideo}
 use Rattle.plain.specs.declared.PlainRegisters.{PlainRegisters}
@@ -15,26 +13,15 @@ use Rattle.plain.specs.Parts.{buffer_of, buffer_plain, work_plain}
 use Rattle.plain.specs.Form.{plain_form_b}
 use Rattle.plain.specs.Mirror.{from_plain}
 use Rattle.bus.specs.declared.PlainAnswer.{PlainAnswer}
-use Rattle.bus.specs.declared.Kept.{Kept}
+use Rattle.bus.specs.declared.Held.{Held}
 use Rattle.bus.specs.Asked.{refused_plain}
 
 -- what acts on more than the buffer: RESET, and any command in read mode; and an entry past nine bits
 abbrev pub turns_b : ℕ → ℕ → Bool
 turns_b m e = cond (ltb e 256) false (not (eqb m 0) || eqb e 256 || leb 512 e)
 
--- what a port answers that changes the buffer alone, in numbers
-pub record Held : Type 0 where
-  pub number : ℕ
-  pub value : ℕ
-  pub buffer : PlainBuffer
-
 abbrev pub held : ℕ → ℕ → PlainBuffer → Held
 held n v b = record { number = n; value = v; buffer = b }
-
--- .. as the code has it, of the buffer given: "Success is number 0"; a refusal leaves it
-abbrev pub kept : PlainBuffer → Result Kept Refusal → Held
-kept b (Ok k) = held 0 k.value k.buffer
-kept b (Err w) = held (refusal_number w) 0 b
 
 abbrev pub queued_buffer : PlainBuffer → ℕ → PlainBuffer
 queued_buffer b e = buffer_plain (pushed (buffer_of b) e)

@@ -14,7 +14,7 @@ ghost use Rattle.bus.specs.Bytes.{
   turns_b,
   queued_buffer,
   held_written,
-  kept,
+  held,
   written_held,
   held_read,
   read_held,
@@ -22,7 +22,7 @@ ghost use Rattle.bus.specs.Bytes.{
 };
 
 use plain::{PlainBuffer, PlainProgress, PlainRegisters, PlainVideo};
-use ports::{Answer, Refusal};
+use ports::Answer;
 use registers::{Buffer, Work};
 
 // What a port answers.
@@ -57,11 +57,24 @@ pub fn refuse(p: PlainRegisters) -> PlainAnswer
     }
 }
 
-// What a port grants that changes the buffer alone: the byte read, and the buffer then.
+// What a port answers that changes the buffer alone.
 #[derive(Clone, Copy)]
-struct Kept {
+struct Held {
+    number: u8,
     value: u8,
     buffer: PlainBuffer,
+}
+
+impl Held {
+    fn new(number: u8, value: u8, buffer: PlainBuffer) -> Held
+        ensures { result ≡ held number value buffer }
+    {
+        Held {
+            number,
+            value,
+            buffer,
+        }
+    }
 }
 
 // What acts on more than the buffer: RESET, and any command in read mode; and an entry past nine bits.
@@ -80,19 +93,16 @@ fn queue(b: PlainBuffer, e: u16) -> PlainBuffer
     registers::push(b.into(), e).into()
 }
 
-fn held_written(mode: u8, b: PlainBuffer, e: u16) -> Result<Kept, Refusal>
-    ensures { kept b result ≡ held_written mode b e }
+fn held_written(mode: u8, b: PlainBuffer, e: u16) -> Held
+    ensures { result ≡ held_written mode b e }
 {
     if mode != 0 {
-        return Err(Refusal::Reading);
+        return Held::new(4, 0, b);
     }
     if registers::PLACES <= b.count {
-        return Err(Refusal::Full);
+        return Held::new(3, 0, b);
     }
-    Ok(Kept {
-        value: 0,
-        buffer: queue(b, e),
-    })
+    Held::new(0, 0, queue(b, e))
 }
 
 // After RESET: "buffer emptied, write mode, figure or read ended where it stands, display off".
@@ -130,18 +140,17 @@ fn turned_plain(p: PlainRegisters, e: u16) -> PlainRegisters
     }
 }
 
-// All registers but the buffer stay; a refusal answers the set given.
-fn answer_held(p: PlainRegisters, a: Result<Kept, Refusal>) -> PlainAnswer
-    ensures { result ≡ answer_held p (kept p.buffer a) }
+// All registers but the buffer stay.
+fn answer_held(p: PlainRegisters, h: Held) -> PlainAnswer
+    ensures { result ≡ answer_held p h }
 {
-    let (number, value, buffer) = match a {
-        Ok(Kept { value, buffer }) => (0, value, buffer),
-        Err(why) => (why.number(), 0, p.buffer),
-    };
     PlainAnswer {
-        number,
-        value,
-        regs: PlainRegisters { buffer, ..p },
+        number: h.number,
+        value: h.value,
+        regs: PlainRegisters {
+            buffer: h.buffer,
+            ..p
+        },
     }
 }
 
@@ -173,13 +182,13 @@ pub fn command(r: PlainRegisters, byte: u8) -> PlainAnswer
 }
 
 // The same of a set that may be unsound, or none.
-fn written_held(p: PlainRegisters, e: u16) -> Result<Kept, Refusal>
-    ensures { kept p.buffer result ≡ written_held p e }
+fn written_held(p: PlainRegisters, e: u16) -> Held
+    ensures { result ≡ written_held p e }
 {
-    if !forms::fits(p) {
-        return Err(Refusal::Unsound);
+    if forms::fits(p) {
+        return held_written(p.mode, p.buffer, e);
     }
-    held_written(p.mode, p.buffer, e)
+    Held::new(1, 0, p.buffer)
 }
 
 // A byte to its port, and 256 more for the command port.
@@ -218,32 +227,26 @@ fn status_plain(p: PlainRegisters) -> u8
 }
 
 // The oldest byte read, where there is one.
-fn held_read(mode: u8, b: PlainBuffer) -> Result<Kept, Refusal>
-    ensures { kept b result ≡ held_read mode b }
+fn held_read(mode: u8, b: PlainBuffer) -> Held
+    ensures { result ≡ held_read mode b }
 {
     if (mode == 0) | (b.count == 0) {
-        return Err(Refusal::NoByte);
+        return Held::new(5, 0, b);
     }
     let bytes = Buffer::from(b);
     let oldest = registers::oldest_of(bytes);
-    Ok(Kept {
-        value: (oldest % 256) as u8,
-        buffer: registers::pop(bytes).into(),
-    })
+    Held::new(0, (oldest % 256) as u8, registers::pop(bytes).into())
 }
 
 // A port is read, of a set that may be unsound, or none.
-fn read_held(p: PlainRegisters, port: u8) -> Result<Kept, Refusal>
-    ensures { kept p.buffer result ≡ read_held p port }
+fn read_held(p: PlainRegisters, port: u8) -> Held
+    ensures { result ≡ read_held p port }
 {
     if !forms::fits(p) {
-        return Err(Refusal::Unsound);
+        return Held::new(1, 0, p.buffer);
     }
     if port == 0 {
-        return Ok(Kept {
-            value: status_plain(p),
-            buffer: p.buffer,
-        });
+        return Held::new(0, status_plain(p), p.buffer);
     }
     held_read(p.mode, p.buffer)
 }
