@@ -175,7 +175,7 @@ def rust_parts(kind, text, line):
     """Fields and cases by name; a field by its name with its type too."""
     parts = {}
     if kind == 'enum':
-        inside = re.sub(r'\{[^{}]*\}|\([^()]*\)', lambda m: re.sub(r'[^\n]', ' ', m[0]), text[text.index('{') + 1:])
+        inside = re.sub(r'#\[[^\]]*\]|\{[^{}]*\}|\([^()]*\)', lambda m: re.sub(r'[^\n]', ' ', m[0]), text[text.index('{') + 1:])
         before = text[:text.index('{') + 1].count('\n')
         parts = {m[1]: line + before + inside[:m.start(1)].count('\n') for m in re.finditer(r'(?:^|,)\s*(\w+)', inside)}
     for j, one in enumerate(text.split('\n')):

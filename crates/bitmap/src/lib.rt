@@ -5,29 +5,28 @@ ghost use Rattle.std.specs.Prelude.{◌≡◌, ◌+◌, ◌*◌, ◌/◌, ◌%�
 ghost use Rattle.bitmap.specs.Image.{reversed_of, half_of, byte_at, image_of};
 
 // A byte with its bits in reverse.
-fn reversed(b: u16) -> u8
+fn reversed(b: u8) -> u8
     ensures { result ≡ reversed_of b }
 {
-    let high = 128 * (b % 2) + 64 * (b / 2 % 2) + 32 * (b / 4 % 2) + 16 * (b / 8 % 2);
-    let low = 8 * (b / 16 % 2) + 4 * (b / 32 % 2) + 2 * (b / 64 % 2) + b / 128 % 2;
-    (high + low) as u8
+    b.reverse_bits()
 }
 
 // The word at a place, 0 past the memory's end.
 fn word_at(mem: &[u16], at: usize) -> u16
     ensures { result ≡ get_or mem.now at 0 }
 {
-    if at < mem.len() { mem[at] } else { 0 }
+    mem.get(at).copied().unwrap_or(0)
 }
 
 // A word's low byte for an even place, its high byte for an odd one.
-fn half(word: u16, place: usize) -> u16
+#[tactic(auto, unfolding(crate::specs::Image::half_of))]
+fn half(word: u16, place: usize) -> u8
     ensures { result ≡ half_of word place }
 {
     if place % 2 == 0 {
-        word % 256
+        (word % 256) as u8
     } else {
-        word / 256
+        (word / 256) as u8
     }
 }
 
@@ -48,9 +47,7 @@ pub fn fill_image(mem: &[u16], p: u32, image: &mut [u8])
         return;
     }
     let width = 2 * p as usize;
-    let mut j: usize = 0;
-    while j < image.len() {
+    for j in 0..image.len() {
         image[j] = image_byte(mem, p, j / width, j % width);
-        j += 1;
     }
 }

@@ -7,6 +7,7 @@ use mathlib.Core.Bool.{Bool, true, false, cond, not, ◌&&◌, ◌||◌}
 use native.Mathlib.Omega.{arith}
 use lib.Dec.{eqb, ltb, leb}
 use borrow.Author.Tests.{ltb-false, leb-false, eqb-false, eq-eqb, ne_eqb}
+use Rattle.registers.specs.declared.Mode.{Mode}
 use Rattle.registers.specs.declared.Mode.TheVariants.{Write, Read}
 use Rattle.registers.specs.declared.Buffer.{Buffer}
 use Rattle.registers.specs.declared.Registers.{Registers}
@@ -16,7 +17,7 @@ use Rattle.registers.specs.Put.{put_buffer}
 use Rattle.registers.proofs.BoolLaws.{false_true}
 use Rattle.processor.specs.Command.{reset_done}
 use Rattle.ports.specs.declared.Answer.{Answer}
-use Rattle.ports.specs.Port.{granted, refused, queued_or3, command_in, command_written, parameter_in, parameter_written, byte_in}
+use Rattle.ports.specs.Port.{granted, refused, queued, queued_or3, command_in, command_written, parameter_in, parameter_written, byte_in}
 use Rattle.ports.specs.Port.{byte_read, status_read}
 use Rattle.status.specs.Status.{status_of, figure_in_progress_b, read_mode_b}
 use Rattle.sending.specs.Send.{written}
@@ -30,8 +31,8 @@ use Rattle.plain.proofs.MirrorLaws.{to_from}
 use Rattle.bus.specs.declared.PlainAnswer.{PlainAnswer}
 use Rattle.bus.specs.declared.Held.{Held}
 use Rattle.bus.specs.Asked.{answer_plain, refused_plain, asked, read_from}
-use Rattle.bus.specs.Bytes.{turns_b, held, queued_held, held_written, fit_b, written_held, held_read, read_held}
-use Rattle.bus.specs.Bytes.{answer_held, granted_plain, reset_plain, turned_plain, command_plain}
+use Rattle.bus.specs.Bytes.{turns_b, held, queued_buffer, queued_held, held_written, fit_b, written_held, held_read, read_held}
+use Rattle.bus.specs.Bytes.{with_buffer, answer_held, granted_plain, reset_plain, turned_plain, command_plain}
 
 -- ---- the set itself, and the set with another buffer
 module _ (p : PlainRegisters) (s : plain_form_b p ≡ true) where
@@ -117,6 +118,26 @@ marked e l f g =
     let b = leb-false 512 e g in
     (ne_eqb (e % 256) 0 (λ (z : e % 256 ≡ 0). absurd (omega (arith, a))), omega arith)
 
+-- a command has no byte to give
+no_value : (p : PlainRegisters) (b : ℕ) → (asked p (command_written (from_plain p) b)).value ≡ 0
+unfolding command_written queued_or3
+no_value p b = go (plain_form_b p) (sound_b (from_plain p)) (eqb b 0)
+  where
+    by_mode : (m : Mode) → (command_in m (from_plain p) b).value ≡ 0
+    by_mode Write = full (leb 16 (from_plain p).buffer.count)
+      where
+        full : (t : Bool) → (cond t (refused 3 (from_plain p)) (granted 0 (queued (from_plain p) (b + 256)))).value ≡ 0
+        full true = refl
+        full false = refl
+    by_mode Read = refl
+
+    go : (t u w : Bool) → (cond t (answer_plain (cond u (cond w (granted 0 (reset_done (from_plain p))) (command_in (from_plain p).mode
+        (from_plain p) b)) (refused 1 (from_plain p)))) (refused_plain p)).value ≡ 0
+    go true true true = refl
+    go true true false = by_mode (from_plain p).mode
+    go true false w = refl
+    go false u w = refl
+
 module _ (p : PlainRegisters) (e : ℕ) where
   queued_there : turns_b p.mode e ≡ false → plain_form_b p ≡ true
       → answer_held p (held_written p.mode p.buffer e) ≡ answer_plain (written_in (from_plain p) e)
@@ -140,15 +161,30 @@ module _ (p : PlainRegisters) (e : ℕ) where
       go false true false false a b c q = command (marked e (ltb-false e 256 a) b c)
       go false false v w a b c q = absurd (false_true (sym q))
 
+  no_byte : (written_held p e).value ≡ 0
+  no_byte = go (fit_b p) (eqb p.mode 0) (leb 16 p.buffer.count)
+    where
+      go : (t u v : Bool)
+          → (cond t (cond u (cond v (held 3 0 p.buffer) (held 0 0 (queued_buffer p.buffer e))) (held 4 0 p.buffer))
+          (held 1 0 p.buffer)).value ≡ 0
+      go true true true = refl
+      go true true false = refl
+      go true false v = refl
+      go false u v = refl
+
   -- the buffer alone changes
-  pub writes : turns_b p.mode e ≡ false → answer_held p (written_held p e) ≡ asked p (written (from_plain p) e)
-  writes n =
-      ported p (held_written p.mode p.buffer e) (written_in (from_plain p) e) (queued_there n)
+  pub writes : {h : Held} → turns_b p.mode e ≡ false → h ≡ written_held p e
+      → record { number = h.number; value = 0; regs = with_buffer p h.buffer } ≡ asked p (written (from_plain p) e)
+  writes n f =
+      (λ i. record { number = (f i).number; value = sym no_byte i; regs = with_buffer p (f i).buffer })
+      ∙ ported p (held_written p.mode p.buffer e) (written_in (from_plain p) e) (queued_there n)
       ∙ ap (asked p) (written_in_law (from_plain p) e)
 
   -- .. or more
-  pub turns_on : turns_b p.mode e ≡ true → asked p (command_written (from_plain p) (e % 256)) ≡ asked p (written (from_plain p) e)
-  turns_on n = go (ltb e 256) n
+  pub turns_on : {a : PlainAnswer} → turns_b p.mode e ≡ true → a ≡ asked p (command_written (from_plain p) (e % 256))
+      → record { number = a.number; value = 0; regs = a.regs } ≡ asked p (written (from_plain p) e)
+  turns_on n f =
+      (λ i. record { number = (f i).number; value = sym (no_value p (e % 256)) i; regs = (f i).regs }) ∙ go (ltb e 256) n
     where
       go : (t : Bool) → cond t false (not (eqb p.mode 0) || eqb e 256 || leb 512 e) ≡ true
           → asked p (command_written (from_plain p) (e % 256))

@@ -195,10 +195,22 @@ fn written_held(p: PlainRegisters, e: u16) -> Held
 pub fn write_plain(p: PlainRegisters, e: u16) -> PlainAnswer
     ensures { result ≡ asked p (written (from_plain p) e) }
 {
+    let mut number = 0;
+    let mut regs = p;
     if turns(p.mode, e) {
-        return command(p, (e % 256) as u8);
+        let a = command(p, (e % 256) as u8);
+        number = a.number;
+        regs = a.regs;
+    } else {
+        let h = written_held(p, e);
+        number = h.number;
+        regs.buffer = h.buffer;
     }
-    answer_held(p, written_held(p, e))
+    PlainAnswer {
+        number,
+        value: 0,
+        regs,
+    }
 }
 
 // The status, of what it looks at.

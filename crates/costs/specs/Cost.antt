@@ -1,11 +1,14 @@
 -- 02, M-106: what a sheet costs, said before anything is sent.
-use Rattle.std.specs.Prelude.{ℕ, ◌+◌, ◌≡◌, cond, List, eqb, length}
+use Rattle.std.specs.Prelude.{ℕ, ◌+◌, ◌≡◌, cond, List, eqb, length, Result, Ok, Err}
 use Rattle.records.specs.declared.Record.{Record}
 use Rattle.blocks.specs.declared.Answer.{Answer}
+use Rattle.blocks.specs.declared.Refused.{Refused}
+use Rattle.blocks.specs.Refused.{refused}
 use Rattle.refusals.specs.Refusals.{sheet_refusal}
 use Rattle.sheets.specs.Lawful.{Lawful}
 use Rattle.sheets.specs.Slots.{translation}
 use Rattle.sheets.specs.Sheet.{figures_of, translate_def}
+use Rattle.costs.specs.declared.Price.{Price}
 use Rattle.costs.specs.declared.Cost.{Cost}
 use Rattle.costs.specs.Dots.{figures_dots}
 
@@ -20,6 +23,15 @@ cost_of t p l = record { number = 0; first = length (translation t p l); second 
 -- a refusal "returns its number and its two values"; no figures, no units
 abbrev pub cost_refused : Answer → Cost
 cost_refused a = record { number = a.number; first = a.first; second = a.second; figures = 0; units = 0 }
+
+-- .. as the code has them: what is counted is told with number 0
+abbrev pub priced : Price → Cost
+priced q = record { number = 0; first = q.entries; second = 0; figures = q.figures; units = q.units }
+
+-- .. and a refusal with its number and its two values
+abbrev pub answered : Result Price Refused → Cost
+answered (Ok q) = priced q
+answered (Err w) = cost_refused (refused w)
 
 -- 11 to 19; else what its figures cost
 unfoldable pub cost_def : List ℕ → ℕ → ℕ → List ℕ → Cost

@@ -5,14 +5,22 @@ ghost use Rattle.std.specs.Prelude.{◌≡◌, ◌*◌};
 ghost use Rattle.circles.specs.Circle.{circle_dots};
 ghost use Rattle.sheets.specs.Slots.{slot_figures, figures};
 ghost use Rattle.costs.specs.Dots.{line_dots, border_dots, figure_dots};
-ghost use Rattle.costs.specs.Cost.{cost_def};
+ghost use Rattle.costs.specs.Cost.{cost_def, priced, answered};
 ghost use Rattle.costs.specs.Share.{share_of, cost_by};
 
+use blocks::Refused;
 use records::{Figure, Room};
 use refusals::{BLOCK_BYTES, RECORDS};
 
-// What a sheet costs: a number of refusal with its two values; or 0 with the entries needed and 0, how many figures there are, and the
-// units that their drawing takes.
+// What an accepted sheet costs: the entries needed, how many figures there are, and the units that their drawing takes.
+#[derive(Clone, Copy)]
+pub struct Price {
+    pub entries: u32,
+    pub figures: u32,
+    pub units: u64,
+}
+
+// The answer in numbers: a number of refusal with its two values; or 0 with the entries needed and 0, the figures and the units.
 #[derive(Clone, Copy)]
 pub struct Cost {
     pub number: u8,
@@ -98,8 +106,8 @@ fn slot_share(s: &[u8], k: u16, m: Room) -> Share
 }
 
 // What PITCH P and the figures of n blocks cost.
-fn counted(s: &[u8], n: u8, m: Room) -> Cost
-    ensures { result ≡ cost_by (figures s.now m n) }
+fn counted(s: &[u8], n: u8, m: Room) -> Price
+    ensures { priced result ≡ cost_by (figures s.now m n) }
 {
     let mut figures: u32 = 0;
     let mut entries: u32 = 2;
@@ -110,30 +118,44 @@ fn counted(s: &[u8], n: u8, m: Room) -> Cost
         entries += x.entries;
         dots += x.dots as u64;
     }
-    Cost {
-        number: 0,
-        first: entries,
-        second: 0,
+    Price {
+        entries,
         figures,
         units: entries as u64 + dots,
     }
 }
 
 // What the sheet s costs, for a plane of P words by H lines and the glyph table t.
-pub fn cost_of(s: &[u8], p: u32, h: u32, t: &[u8]) -> Cost
-    ensures { result ≡ cost_def s.now p h t.now }
+pub fn cost_of(s: &[u8], p: u32, h: u32, t: &[u8]) -> Result<Price, Refused>
+    ensures { answered result ≡ cost_def s.now p h t.now }
 {
-    if let Err(why) = refusals::sheet_refusal(s, p, h, t) {
-        let refusal = why.answer();
-        return Cost {
-            number: refusal.number,
-            first: refusal.first,
-            second: refusal.second,
-            figures: 0,
-            units: 0,
-        };
-    }
+    refusals::sheet_refusal(s, p, h, t)?;
     let n = (s.len() / BLOCK_BYTES) as u8;
     let m = refusals::room_of(p as u8, h as u16, t.len() as u16);
-    counted(s, n, m)
+    Ok(counted(s, n, m))
+}
+
+// What a sheet costs, in numbers; a refused sheet has no figures and no units.
+pub fn told(r: Result<Price, Refused>) -> Cost
+    ensures { result ≡ answered r }
+{
+    match r {
+        Ok(q) => Cost {
+            number: 0,
+            first: q.entries,
+            second: 0,
+            figures: q.figures,
+            units: q.units,
+        },
+        Err(why) => {
+            let refusal = why.answer();
+            Cost {
+                number: refusal.number,
+                first: refusal.first,
+                second: refusal.second,
+                figures: 0,
+                units: 0,
+            }
+        }
+    }
 }

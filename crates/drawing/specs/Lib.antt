@@ -1,2 +1,3 @@
 pub mod Draw
+pub mod Refused
 pub mod Right

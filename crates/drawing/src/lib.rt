@@ -2,12 +2,33 @@
 #![tactic(auto)]
 
 ghost use Rattle.std.specs.Prelude.{◌≡◌};
-ghost use Rattle.drawing.specs.Draw.{refusal, outcome, larger_b, sheet_drawn};
+ghost use Rattle.drawing.specs.declared.Refusal.TheVariants.{Sheet};
+ghost use Rattle.drawing.specs.Draw.{outcome, larger_b, sheet_drawn};
+ghost use Rattle.drawing.specs.Refused.{refused, answered};
 
+use blocks::{Answer, Refused};
 use registers::Registers;
 
-// What a drawing answers: a number of refusal with its two values, the units of the sheet and those of what was waiting before it,
-// and the registers.
+// Why a drawing is refused: an unsound register set, a memory of a wrong length, a picture larger than the memory, or the sheet.
+#[derive(Clone, Copy)]
+pub enum Refusal {
+    Unsound,
+    Length,
+    Larger,
+    Sheet(Refused),
+}
+
+// What was drawn: the entries of the sheet, their units and those of what was waiting before it, and the registers.
+#[derive(Clone, Copy)]
+pub struct Picture {
+    pub entries: u32,
+    pub units: u64,
+    pub earlier: u64,
+    pub regs: Registers,
+}
+
+// What a drawing answers, in numbers: a number of refusal with its two values, the units of the sheet and those of what was waiting
+// before it, and the registers.
 #[derive(Clone, Copy)]
 pub struct Drawn {
     pub number: u8,
@@ -18,17 +39,57 @@ pub struct Drawn {
     pub regs: Registers,
 }
 
-// A refusal: the set given, and no units.
-fn refuse(number: u8, first: u32, second: u32, r: Registers) -> Drawn
-    ensures { result ≡ refusal number first second r }
+impl From<Refused> for Refusal {
+    ghost from_gives = { λ w q. q ≡ Sheet w };
+
+    fn from(w: Refused) -> Refusal {
+        Refusal::Sheet(w)
+    }
+}
+
+impl Refusal {
+    // The number and the values of a refusal.
+    pub fn answer(self) -> Answer
+        ensures { result ≡ refused self }
+    {
+        let number = match self {
+            Refusal::Unsound => 1,
+            Refusal::Length => 2,
+            Refusal::Larger => 23,
+            Refusal::Sheet(why) => return why.answer(),
+        };
+        Answer {
+            number,
+            first: 0,
+            second: 0,
+        }
+    }
+}
+
+// The answer in numbers to a drawing with the registers r; a refusal has the set given, and no units.
+pub fn told(r: Registers, d: Result<Picture, Refusal>) -> Drawn
+    ensures { result ≡ answered r d }
 {
-    Drawn {
-        number,
-        first,
-        second,
-        units: 0,
-        earlier: 0,
-        regs: r,
+    match d {
+        Ok(q) => Drawn {
+            number: 0,
+            first: q.entries,
+            second: 0,
+            units: q.units,
+            earlier: q.earlier,
+            regs: q.regs,
+        },
+        Err(why) => {
+            let a = why.answer();
+            Drawn {
+                number: a.number,
+                first: a.first,
+                second: a.second,
+                units: 0,
+                earlier: 0,
+                regs: r,
+            }
+        }
     }
 }
 
@@ -48,34 +109,26 @@ pub fn draw_sheet(
     r: Registers,
     entries: &mut [u16],
     mem: &mut [u16],
-) -> Drawn
-    ensures { outcome result entries.new mem.new
+) -> Result<Picture, Refusal>
+    ensures { outcome (answered r result) entries.new mem.new
         ≡ sheet_drawn sheet.now p h glyphs.now r entries.old mem.old }
 {
     if !registers::sound(r) {
-        return refuse(1, 0, 0, r);
+        return Err(Refusal::Unsound);
     }
     if !units::length_right(r.board.wiring, mem.len()) {
-        return refuse(2, 0, 0, r);
+        return Err(Refusal::Length);
     }
     if larger(p, h, mem.len()) {
-        return refuse(23, 0, 0, r);
+        return Err(Refusal::Larger);
     }
-    let written = match sheets::translate(sheet, p, h, glyphs, entries) {
-        Ok(written) => written,
-        Err(why) => {
-            let a = why.answer();
-            return refuse(a.number, a.first, a.second, r);
-        }
-    };
+    let written = sheets::translate(sheet, p, h, glyphs, entries)?;
     let w = finishing::finish(r, mem);
     let q = lists::send_all(w.regs, &entries[..written as usize], mem);
-    Drawn {
-        number: 0,
-        first: written,
-        second: 0,
+    Ok(Picture {
+        entries: written,
         units: q.units,
         earlier: w.units,
         regs: q.regs,
-    }
+    })
 }

@@ -49,12 +49,12 @@ pub fn translation(d: Desk, room: u32, papers: &[u8], out: &mut Output) {
 pub fn cost(d: Desk, papers: &[u8]) -> Reply
     ensures { result ≡ cost_told d papers.now }
 {
-    let c = costs::cost_of(
+    let c = costs::told(costs::cost_of(
         sheet_of(papers, d.sheet),
         d.across,
         d.down,
         table_of(papers, d.glyphs),
-    );
+    ));
     Reply::Four(
         b'K',
         c.number as u64,

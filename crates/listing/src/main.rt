@@ -12,7 +12,7 @@ fn digit(n: u16) -> u8
     ensures { result ≡ digit_of (n % 16) }
 {
     let d = (n % 16) as u8;
-    if d < 10 { 48 + d } else { 55 + d }
+    if d < 10 { b'0' + d } else { b'A' - 10 + d }
 }
 
 // P for a parameter byte, C for a command.
@@ -31,25 +31,19 @@ fn entry_line(e: u16) -> [u8; 5]
 
 // The first n entries, one to a line.
 fn print_entries(entries: &[u16], n: usize) {
-    let mut i: usize = 0;
-    while i < n {
-        if entries.len() <= i {
-            return;
-        }
-        let e = entries[i];
-        io::write_all(1, &entry_line(e));
-        i += 1;
+    for e in entries.iter().take(n) {
+        io::write_all(1, &entry_line(*e));
     }
 }
 
 // The three numbers on standard output, and what they mean on standard error.
 fn print_refusal(a: Answer) {
     io::write_all(1, b"refused ");
-    io::print_decimal(1, a.number as u64);
+    io::print_decimal(1, u64::from(a.number));
     io::write_all(1, b" ");
-    io::print_decimal(1, a.first as u64);
+    io::print_decimal(1, u64::from(a.first));
     io::write_all(1, b" ");
-    io::print_decimal(1, a.second as u64);
+    io::print_decimal(1, u64::from(a.second));
     io::write_all(1, b"\n");
     sentences::say_refusal(2, a.number, a.first, a.second);
 }
@@ -59,9 +53,8 @@ fn print_refusal(a: Answer) {
 fn main() {
     let mut sheet = [0u8; 8193];
     let n = io::read_full(0, &mut sheet);
-    let glyphs = [0u8; 0];
     let mut entries = [0u16; 128802];
-    match sheets::translate(&sheet[..n], 40, 400, &glyphs, &mut entries) {
+    match sheets::translate(&sheet[..n], 40, 400, &[], &mut entries) {
         Ok(written) => print_entries(&entries, written as usize),
         Err(why) => print_refusal(why.answer()),
     }

@@ -301,7 +301,7 @@ pub fn kranichseil_translate(
 pub fn kranichseil_cost(sheet: &[u8], p: u32, h: u32, glyphs: &[u8]) -> PlainCost
     ensures { costed result ≡ cost_def sheet.now p h glyphs.now }
 {
-    let c = costs::cost_of(sheet, p, h, glyphs);
+    let c = costs::told(costs::cost_of(sheet, p, h, glyphs));
     PlainCost {
         number: c.number,
         first: c.first,

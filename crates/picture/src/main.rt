@@ -8,6 +8,7 @@
 // open or folded; folded unless it is given. Where anything is wrong it says so in a sentence on standard error and writes nothing else.
 #![tactic(auto)]
 
+use blocks::Answer;
 use dots::Wiring;
 use std::rt::{Env, Files};
 
@@ -60,16 +61,19 @@ fn show(mem: &[u16], p: u32, h: u32) {
     show_by(mem, p, h, &mut room);
 }
 
+// What was refused is said.
+fn refuse(a: Answer) {
+    sentences::say_refusal(2, a.number, a.first, a.second);
+}
+
 // The sheet is drawn from fresh registers, so wired, over a memory of zeros.
 fn draw(sheet: &[u8], p: u32, h: u32, glyphs: &[u8], wiring: Wiring, mem: &mut [u16]) {
     let mut entries = [0u16; 128802];
     let r = wirings::wired(registers::fresh(), wiring);
-    let d = drawing::draw_sheet(sheet, p, h, glyphs, r, &mut entries, mem);
-    if d.number != 0 {
-        sentences::say_refusal(2, d.number, d.first, d.second);
-        return;
+    match drawing::draw_sheet(sheet, p, h, glyphs, r, &mut entries, mem) {
+        Ok(_) => show(mem, p, h),
+        Err(why) => refuse(why.answer()),
     }
-    show(mem, p, h);
 }
 
 // The sheet is read, and drawn in that many words.
@@ -113,12 +117,10 @@ fn wrong_wiring() {
 
 // What the sheet costs is said.
 fn tell(sheet: &[u8], p: u32, h: u32, glyphs: &[u8]) {
-    let c = costs::cost_of(sheet, p, h, glyphs);
-    if c.number != 0 {
-        sentences::say_refusal(2, c.number, c.first, c.second);
-        return;
+    match costs::cost_of(sheet, p, h, glyphs) {
+        Ok(c) => sentences::say_cost(1, c.figures, c.entries, c.units),
+        Err(why) => refuse(why.answer()),
     }
-    sentences::say_cost(1, c.figures, c.first, c.units);
 }
 
 // The sheet and the glyphs are read, and the cost is said.

@@ -1,3 +1,4 @@
-pub mod UnitLaws
-pub mod RunLaws
 pub mod AheadLaws
+pub mod RunLaws
+pub mod UnitLaws
+pub mod PowerLaws

@@ -2,7 +2,6 @@
 #![tactic(auto)]
 
 ghost use Rattle.std.specs.Prelude.{◌≡◌, ◌-◌};
-ghost use Rattle.dots.specs.declared.Wiring.TheVariants.{Folded};
 ghost use Rattle.registers.specs.Put.{put_cursor, put_work, put_remaining};
 ghost use Rattle.registers.specs.Sound.{sound_b};
 ghost use Rattle.registers.specs.State.{state};
@@ -140,34 +139,14 @@ pub fn reason(r: Registers) -> Option<Stop>
     }
 }
 
-// A power of two, 16 to 262,144.
-fn folded_right(n: usize) -> bool
-    ensures { result ≡ length_b Folded n }
-{
-    (n == 16)
-        | (n == 32)
-        | (n == 64)
-        | (n == 128)
-        | (n == 256)
-        | (n == 512)
-        | (n == 1024)
-        | (n == 2048)
-        | (n == 4096)
-        | (n == 8192)
-        | (n == 16384)
-        | (n == 32768)
-        | (n == 65536)
-        | (n == 131072)
-        | (n == dots::ADDRESSES as usize)
-}
-
-// Whether a memory of n words may be wired so.
+// Whether a memory of n words may be wired so: 16 to 262,144 words, and folded a power of two.
 pub fn length_right(wiring: Wiring, n: usize) -> bool
     ensures { result ≡ length_b wiring n }
 {
+    let within = (16 <= n) & (n <= dots::ADDRESSES as usize);
     match wiring {
-        Wiring::Folded => folded_right(n),
-        Wiring::Open => (16 <= n) & (n <= dots::ADDRESSES as usize),
+        Wiring::Folded => within & n.is_power_of_two(),
+        Wiring::Open => within,
     }
 }
 

@@ -5,8 +5,8 @@ ghost use Rattle.walks.specs.Pace.{paced, pace_walk};
 
 use dots::{Cursor, Operation, Wiring};
 
-// What stands for the place of a dot, with all that the step after it asks: at is its bit address, on what the step leads to, and stands says
-// from where, and so to where, a step may lead.
+// What stands for the place of a dot, with all that the step after it asks: at is its bit address, on what the step leads to,
+// and stands says from where, and so to where, a step may lead.
 pub trait Pace: Copy {
     ghost at: { Self → ℕ };
 

@@ -35,5 +35,8 @@ pub fn wiring_at(rt: &impl Env, i: usize) -> Option<Wiring> {
 pub fn wired(r: Registers, wiring: Wiring) -> Registers
     ensures { result ≡ wired_as wiring r }
 {
-    Registers { board: Board { wiring }, ..r }
+    Registers {
+        board: Board { wiring },
+        ..r
+    }
 }

@@ -20,9 +20,6 @@ nonzero_rem-j c = omega (arith, c.loop-j.invariant.wide, c.if-p-eq0.false)
 pub image_byte-requires : goal.image_byte-requires
 image_byte-requires c = let l = c.loop-j in omega (arith, place_fits _ _ _ _ l.invariant.wide c.loop-j-test.true)
 
-pub loop-j-smaller : goal.loop-j-smaller
-loop-j-smaller c = let l = c.loop-j in omega (arith, l.invariant.long, c.loop-j-test.true)
-
 pub loop-j-preserved : goal.loop-j-preserved
 loop-j-preserved c = let l = c.loop-j in
     let e = c.loop-j-test.true in

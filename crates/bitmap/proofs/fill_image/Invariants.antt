@@ -15,6 +15,3 @@ invariant-loop-j l =
       same : filled l.initial.image 0 (bytes_from l.p l.mem (length l.initial.image) 0)
           ≡ filled l.image l.j (bytes_from l.p l.mem (length l.initial.image - l.j) l.j);
     }
-
-abbrev pub decreases-loop-j : goal.decreases-loop-j
-decreases-loop-j l = length l.initial.image - l.j

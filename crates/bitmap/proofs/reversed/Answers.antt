@@ -1,8 +1,14 @@
--- `reversed` gives `reversed_of`: the same sum, of bits that are 0 or 1.
-use mathlib.Core.Path.{refl}
+-- `reversed` gives `reversed_of`: std's bits, one by one.
+use native.Mathlib.Omega.{arith}
+use mathlib.Core.Path.{◌≡◌, ◌∙◌}
+use Prim.Native.Nat.{ℕ, ◌<◌}
+use Rattle.std.specs.Int.{w8, reverse_bits, reverse_bits_onto}
 use Rattle.bitmap.specs.Image.{reversed_of}
 use Rattle.bitmap.proofs.reversed.Goals as goal
 
+same : (b : ℕ) → b < 256 → reverse_bits w8 b ≡ reversed_of b
+unfolding reversed_of reverse_bits_onto
+same b h = omega arith
+
 pub returns : goal.returns
-unfolding reversed_of
-returns c = refl
+returns c = c.reverse_bits.ensures ∙ same _ (omega arith)

@@ -30,7 +30,7 @@ pub returns-in_err-value : goal.returns-in_err-value
 returns-in_err-value c =
     let d = c.in_ok-digit.ensures.value in
     let past : 4294967295 < 10 * c.loop-c.value + c.in_ok-digit.digit =
-        omega (arith, c.in_err-value.ensures, c.in_ok-checked_mul.ensures) in
+    omega (arith, c.in_err-value.ensures, c.in_ok-checked_mul.ensures) in
     c.from_residual-in_err-value.ensures
     ∙ sym (c.loop-c.invariant ∙ decimal_passes _ _ _ c.loop-c-test.true c.from.ensures d.0 d.1 past)
 
@@ -38,9 +38,9 @@ pub loop-c-preserved : goal.loop-c-preserved
 loop-c-preserved c =
     let d = c.in_ok-digit.ensures.value in
     let fits : 10 * c.loop-c.value + c.in_ok-digit.digit ≤ 4294967295 =
-        omega (arith, c.in_ok-value.ensures, c.in_ok-checked_mul.ensures) in
+    omega (arith, c.in_ok-value.ensures, c.in_ok-checked_mul.ensures) in
     let value : c.in_ok-value.value ≡ 10 * c.loop-c.value + c.in_ok-digit.digit =
-        omega (arith, c.in_ok-value.ensures, c.in_ok-checked_mul.ensures) in
+    omega (arith, c.in_ok-value.ensures, c.in_ok-checked_mul.ensures) in
     rw value (c.loop-c.invariant ∙ decimal_goes_on _ _ _ c.loop-c-test.true c.from.ensures d.0 d.1 fits)
 
 pub returns : goal.returns

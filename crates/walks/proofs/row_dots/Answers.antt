@@ -17,4 +17,4 @@ returns-in-Some c =
     let a = c.args in
     let v = MatchOption-at_some _ _ _ c.in-Some.is c.address_of.ensures in
     row_by_bits (λ (v : Cursor). row_walk a.b (a.end - a.x) a.y a.x v a.mem.now) c.row_bits.result v.1 v.0 c.cursor_at.ensures
-        c.row_bits.ensures
+    c.row_bits.ensures

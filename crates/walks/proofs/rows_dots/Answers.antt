@@ -17,4 +17,4 @@ returns-in-Some c =
     let a = c.args in
     let v = MatchOption-at_some _ _ _ c.in-Some.is c.address_of.ensures in
     row_by_bits (λ (v : Cursor). rows_walk a.b (a.end - a.y) a.y v a.mem.now) c.rows_bits.result v.1 v.0 c.cursor_at.ensures
-        c.rows_bits.ensures
+    c.rows_bits.ensures

@@ -1,7 +1,8 @@
--- `sheet_of` gives `sheet_of`: the part that `used` counts of what is behind the table.
+-- `sheet_of` gives `sheet_of`: the part in use of what is behind the table.
+use mathlib.Core.Path.{refl, ◌∙◌}
 use Rattle.easel.proofs.PartLaws.{sheet_part}
 use Rattle.easel.proofs.paper.sheet_of.Goals as goal
 
 pub returns : goal.returns
 returns c =
-    let behind = c.in-Some.ensures.lookup.0 in sheet_part _ _ behind.0 behind.2 c.used-k.ensures.same
+    let behind = c.in-Some.ensures.lookup.0 in c.part.ensures ∙ sheet_part _ _ behind.0 behind.2 refl

@@ -12,7 +12,7 @@ loop-i-preserved g c =
       stands = rw c.step-p.ensures (g.met.P.Pace.stands_on l.p l.invariant.stands);
       same = l.invariant.same ∙ pace_on _ _ _ _ _ _ _ _ _ _ c.loop-i-test.true x.ensures
           (rw (← c.address-a.ensures) (cycle_at _ _ c.address-a.result x.result _ _ c.from.ensures c.cycle.ensures))
-              c.step-p.ensures;
+          c.step-p.ensures;
     }
 
 pub returns : goal.returns
