@@ -8,7 +8,6 @@
 // open or folded; folded unless it is given. Where anything is wrong it says so in a sentence on standard error and writes nothing else.
 #![tactic(auto)]
 
-use blocks::Answer;
 use dots::Wiring;
 use std::rt::{Env, Files};
 
@@ -61,18 +60,16 @@ fn show(mem: &[u16], p: u32, h: u32) {
     show_by(mem, p, h, &mut room);
 }
 
-// What was refused is said.
-fn refuse(a: Answer) {
-    sentences::say_refusal(2, a.number, a.first, a.second);
-}
-
 // The sheet is drawn from fresh registers, so wired, over a memory of zeros.
 fn draw(sheet: &[u8], p: u32, h: u32, glyphs: &[u8], wiring: Wiring, mem: &mut [u16]) {
     let mut entries = [0u16; 128802];
     let r = wirings::wired(registers::fresh(), wiring);
     match drawing::draw_sheet(sheet, p, h, glyphs, r, &mut entries, mem) {
         Ok(_) => show(mem, p, h),
-        Err(why) => refuse(why.answer()),
+        Err(why) => {
+            let a = why.answer();
+            sentences::say_refusal(2, a.number, a.first, a.second);
+        }
     }
 }
 
@@ -119,7 +116,10 @@ fn wrong_wiring() {
 fn tell(sheet: &[u8], p: u32, h: u32, glyphs: &[u8]) {
     match costs::cost_of(sheet, p, h, glyphs) {
         Ok(c) => sentences::say_cost(1, c.figures, c.entries, c.units),
-        Err(why) => refuse(why.answer()),
+        Err(why) => {
+            let a = why.answer();
+            sentences::say_refusal(2, a.number, a.first, a.second);
+        }
     }
 }
 
