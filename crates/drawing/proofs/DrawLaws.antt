@@ -1,7 +1,7 @@
 -- One law for each way out of `draw_sheet`, and that two allowed answers are equal. True because the tests of the code run in the
 -- definition's order, and the translator leaves its output as it was where it refuses.
-use mathlib.Core.Path.{◌≡◌, sym, ap, ◌∙◌}
-use mathlib.Core.Bool.{true, false}
+use mathlib.Core.Path.{◌≡◌, refl, sym, ap, ◌∙◌}
+use Rattle.std.specs.Prelude.{Bool, true, false, cond, Err}
 use mathlib.Core.List.{List}
 use Prim.Native.Nat.{ℕ, ◌≤◌}
 use lib.ListN.{length, take, length-take}
@@ -10,7 +10,10 @@ use borrow.Author.Tests.{eq-eqb, ne_eqb}
 use Rattle.registers.specs.declared.Registers.{Registers}
 use Rattle.registers.specs.Sound.{sound_b}
 use Rattle.registers.specs.State.{state}
+use Rattle.units.specs.declared.Refusal.{Refusal}
+use Rattle.units.specs.Answered.{refusal_number, accepted_by}
 use Rattle.units.specs.Run.{length_b}
+use Rattle.units.proofs.RunLaws.{refused_by}
 use Rattle.blocks.specs.declared.Answer.{Answer}
 use Rattle.sheets.specs.Sheet.{answer_of, translate_def}
 use Rattle.sheets.specs.Sheet.{Outcome as Translated, outcome as translated}
@@ -28,15 +31,24 @@ module _ (sheet : List ℕ) (p h : ℕ) (glyphs : List ℕ) (r : Registers) (ent
   abbrev all : Outcome
   all = sheet_drawn sheet p h glyphs r entries mem
 
-  pub way_unsound : {q : Drawn} → sound_b r ≡ false → q ≡ refusal 1 0 0 r → outcome q entries mem ≡ all
+  -- the tests behind the run's two, which `sheet_drawn` nests
+  abbrev by_tests : Bool → Bool → Outcome
+  by_tests k l =
+      cond k
+      (cond l
+      (cond (larger_b p h (length mem)) (outcome (refusal 23 0 0 r) entries mem)
+      (drawn_by (translate_def sheet p h glyphs entries).answer (translate_def sheet p h glyphs entries).out r entries mem))
+      (outcome (refusal 2 0 0 r) entries mem))
+      (outcome (refusal 1 0 0 r) entries mem)
+
+  pub way_run : {why : Refusal} → Err why ≡ accepted_by (sound_b r) (length_b r.board.wiring (length mem))
+      → outcome (refusal (refusal_number why) 0 0 r) entries mem ≡ all
   unfolding sheet_drawn
-  way_unsound s e = rw (e, s)
+  way_run e =
+      refused_by by_tests (λ (n : ℕ). outcome (refusal n 0 0 r) entries mem) (λ l. refl) refl
+      (sound_b r) (length_b r.board.wiring (length mem)) e
 
   module _ (s : sound_b r ≡ true) where
-    pub way_mislong : {q : Drawn} → length_b r.board.wiring (length mem) ≡ false → q ≡ refusal 2 0 0 r → outcome q entries mem ≡ all
-    unfolding sheet_drawn
-    way_mislong l e = rw (e, s, l)
-
     module _ (l : length_b r.board.wiring (length mem) ≡ true) where
       pub way_larger : {q : Drawn} → larger_b p h (length mem) ≡ true → q ≡ refusal 23 0 0 r → outcome q entries mem ≡ all
       unfolding sheet_drawn

@@ -2,18 +2,17 @@
 #![tactic(auto)]
 
 ghost use Rattle.std.specs.Prelude.{◌≡◌};
-ghost use Rattle.drawing.specs.declared.Refusal.TheVariants.{Sheet};
+ghost use Rattle.drawing.specs.declared.Refusal.TheVariants.{Run, Sheet};
 ghost use Rattle.drawing.specs.Draw.{outcome, larger_b, sheet_drawn};
 ghost use Rattle.drawing.specs.Refused.{refused, answered};
 
 use blocks::{Answer, Refused};
 use registers::Registers;
 
-// Why a drawing is refused: an unsound register set, a memory of a wrong length, a picture larger than the memory, or the sheet.
+// Why a drawing is refused: what refuses a run, a picture larger than the memory, or the sheet.
 #[derive(Clone, Copy)]
 pub enum Refusal {
-    Unsound,
-    Length,
+    Run(units::Refusal),
     Larger,
     Sheet(Refused),
 }
@@ -39,6 +38,14 @@ pub struct Drawn {
     pub regs: Registers,
 }
 
+impl From<units::Refusal> for Refusal {
+    ghost from_gives = { λ w q. q ≡ Run w };
+
+    fn from(w: units::Refusal) -> Refusal {
+        Refusal::Run(w)
+    }
+}
+
 impl From<Refused> for Refusal {
     ghost from_gives = { λ w q. q ≡ Sheet w };
 
@@ -53,8 +60,7 @@ impl Refusal {
         ensures { result ≡ refused self }
     {
         let number = match self {
-            Refusal::Unsound => 1,
-            Refusal::Length => 2,
+            Refusal::Run(why) => u8::from(why),
             Refusal::Larger => 23,
             Refusal::Sheet(why) => return why.answer(),
         };
@@ -113,12 +119,7 @@ pub fn draw_sheet(
     ensures { outcome (answered r result) entries.new mem.new
         ≡ sheet_drawn sheet.now p h glyphs.now r entries.old mem.old }
 {
-    if !registers::sound(r) {
-        return Err(Refusal::Unsound);
-    }
-    if !units::length_right(r.board.wiring, mem.len()) {
-        return Err(Refusal::Length);
-    }
+    units::accepted(r, mem.len())?;
     if larger(p, h, mem.len()) {
         return Err(Refusal::Larger);
     }

@@ -2,33 +2,25 @@
 use mathlib.Core.Path.{refl, sym, ◌∙◌}
 use Rattle.std.proofs.lemmas.Result.{err_from_is_err_and}
 use Rattle.blocks.proofs.AnswerLaws.{refused_some}
-use Rattle.drawing.proofs.DrawLaws.{way_unsound, way_mislong, way_larger, way_refused, way_sent, part_fits, part_long}
+use Rattle.units.proofs.RunLaws.{accepted_right}
+use Rattle.drawing.proofs.DrawLaws.{way_run, way_larger, way_refused, way_sent, part_fits, part_long}
 use Rattle.drawing.proofs.draw_sheet.Goals as goal
 
-pub returns-then-not-sound : goal.returns-then-not-sound
-returns-then-not-sound c =
-    way_unsound _ _ _ _ _ _ _ (sym c.sound.ensures ∙ c.if-not-sound.true) refl
-
-pub returns-then-not-length_right : goal.returns-then-not-length_right
-returns-then-not-length_right c =
-    way_mislong _ _ _ _ _ _ _ (sym c.sound.ensures
-    ∙ c.if-not-sound.false)
-    (sym c.length_right.ensures ∙ c.if-not-length_right.true) refl
+pub returns-in_err-accepted : goal.returns-in_err-accepted
+returns-in_err-accepted c =
+    let p = err_from_is_err_and c.from_residual.result c.from_residual.ensures.1 in
+    rw (p.1, p.2) (way_run _ _ _ _ _ _ _ c.in_err-accepted.ensures)
 
 pub returns-then-larger : goal.returns-then-larger
 returns-then-larger c =
-    way_larger _ _ _ _ _ _ _ (sym c.sound.ensures
-    ∙ c.if-not-sound.false)
-    (sym c.length_right.ensures ∙ c.if-not-length_right.false)
+    way_larger _ _ _ _ _ _ _ (accepted_right _ _ c.in_ok-accepted.ensures).0 (accepted_right _ _ c.in_ok-accepted.ensures).1
     (sym c.larger.ensures ∙ c.if-larger.true) refl
 
 pub returns-in_err-written : goal.returns-in_err-written
 returns-in_err-written c =
-    let p = err_from_is_err_and c.from_residual.result c.from_residual.ensures.1 in
+    let p = err_from_is_err_and c.from_residual-in_err-written.result c.from_residual-in_err-written.ensures.1 in
     rw (p.1, p.2)
-    (way_refused _ _ _ _ _ _ _ (sym c.sound.ensures
-    ∙ c.if-not-sound.false)
-    (sym c.length_right.ensures ∙ c.if-not-length_right.false)
+    (way_refused _ _ _ _ _ _ _ (accepted_right _ _ c.in_ok-accepted.ensures).0 (accepted_right _ _ c.in_ok-accepted.ensures).1
     (sym c.larger.ensures ∙ c.if-larger.false) c.in_err-written.ensures
     (refused_some _) refl)
 
@@ -42,9 +34,7 @@ slice_bounds-send_all-end-2 c =
 
 pub returns : goal.returns
 returns c =
-    way_sent _ _ _ _ _ _ _ (sym c.sound.ensures
-    ∙ c.if-not-sound.false)
-    (sym c.length_right.ensures ∙ c.if-not-length_right.false)
+    way_sent _ _ _ _ _ _ _ (accepted_right _ _ c.in_ok-accepted.ensures).0 (accepted_right _ _ c.in_ok-accepted.ensures).1
     (sym c.larger.ensures ∙ c.if-larger.false) c.in_ok-written.ensures refl
     c.finish-w.ensures
     c.send_all-q.ensures
