@@ -30,6 +30,7 @@ pub struct Stroke {
 }
 
 // Dots k to end by the operation of a number, known before the first dot, as the table of masks is.
+#[inline(always)]
 fn walk_loop<P: Pace, const OP: u8>(mem: &mut [u16], s: Stroke, from: P, k: u32, end: u32) -> P
     ensures { paced result mem.new ≡ pace_walk P.at P.on s.wiring (operation_of OP) s.low s.high (end - k) k from mem.old }
 {
@@ -48,7 +49,8 @@ fn walk_loop<P: Pace, const OP: u8>(mem: &mut [u16], s: Stroke, from: P, k: u32,
     p
 }
 
-// The same by the operation, which is looked at once.
+// The same by the operation, which is looked at once. It is compiled into each call, so that where the pattern is all ones no dot asks it.
+#[inline(always)]
 pub(crate) fn walk_by<P: Pace>(mem: &mut [u16], s: Stroke, from: P, k: u32, end: u32) -> P
     ensures { paced result mem.new ≡ pace_walk P.at P.on s.wiring s.op s.low s.high (end - k) k from mem.old }
 {
