@@ -3,16 +3,19 @@
 -- has one. True by cases on the number, and by induction on the places left.
 use Rattle.std.proofs.Common.{◌≡◌, ℕ, zero, suc, ◌+◌, ◌-◌, ◌<◌, ◌≤◌, Bool, true, false, cond, eqb, sym, refl, ap, ◌∙◌, subst, arith, eq-eqb}
 use Rattle.std.proofs.Common.{ne_eqb, eqb-true}
+use Rattle.std.specs.Prelude.{Result, Ok, Err}
 use mathlib.Core.Bool.{false≢true}
 use borrow.Author.Tests.{eqb-false}
 use Rattle.blocks.specs.declared.Answer.{Answer}
 use Rattle.records.specs.declared.Refusal.{Refusal}
 use Rattle.records.specs.declared.Refusal.TheVariants as whys
 use Rattle.records.specs.Refused.{why_number}
+use Rattle.blocks.specs.declared.Fault.{Fault}
+use Rattle.blocks.specs.declared.Fault.TheVariants as faults
 use Rattle.blocks.specs.declared.Refused.{Refused}
 use Rattle.blocks.specs.declared.Refused.TheVariants.{Plane, Table, Length, Check, Heading, Slot, Short}
 use Rattle.blocks.specs.Answer.{answer, refusal_unless, unless, or_else, first_from}
-use Rattle.blocks.specs.Refused.{refused, checked}
+use Rattle.blocks.specs.Refused.{fault_of, fault_number, refused, checked, answered}
 
 -- ---- one after the other
 pub or_first : (a b : Answer) → (a.number ≡ 0 → ⊥) → or_else a b ≡ a
@@ -46,12 +49,11 @@ module _ (a : ℕ → Answer) (n k : ℕ) where
   first_end h = let e : n - k ≡ zero = omega arith in rw e
 
 -- ---- .. as the code has them: a refusal's number is not 0
-why_some : (w : Refusal) → why_number w ≡ 0 → ⊥
-why_some whys.Form e = absurd (omega arith)
-why_some whys.GlyphNumber e = absurd (omega arith)
-why_some whys.Factor e = absurd (omega arith)
-why_some whys.Radius e = absurd (omega arith)
-why_some whys.Outside e = absurd (omega arith)
+fault_some : (f : Fault) → fault_number f ≡ 0 → ⊥
+fault_some faults.Form e = absurd (omega arith)
+fault_some faults.GlyphNumber e = absurd (omega arith)
+fault_some faults.Size e = absurd (omega arith)
+fault_some faults.Outside e = absurd (omega arith)
 
 pub refused_some : (w : Refused) → (refused w).number ≡ 0 → ⊥
 refused_some Plane e = absurd (omega arith)
@@ -59,8 +61,57 @@ refused_some Table e = absurd (omega arith)
 refused_some Length e = absurd (omega arith)
 refused_some (Check b) e = absurd (omega arith)
 refused_some (Heading b) e = absurd (omega arith)
-refused_some (Slot b i w) e = why_some w e
+refused_some (Slot b i f) e = fault_some f e
 refused_some (Short n) e = absurd (omega arith)
+
+-- the number of a record's refusal is the decoder's
+pub fault_told : (w : Refusal) → fault_number (fault_of w) ≡ why_number w
+fault_told whys.Form = refl
+fault_told whys.GlyphNumber = refl
+fault_told whys.Factor = refl
+fault_told whys.Radius = refl
+fault_told whys.Outside = refl
+
+-- ---- a number and its two values have one refusal, so two answers that are told alike are one
+refused_as : ℕ → ℕ → ℕ → Refused
+refused_as n a b =
+    cond (eqb n 11) Plane
+    (cond (eqb n 12) Table
+    (cond (eqb n 13) Length
+    (cond (eqb n 14) (Check a)
+    (cond (eqb n 15) (Heading a)
+    (cond (eqb n 16) (Slot a b faults.Form)
+    (cond (eqb n 17) (Slot a b faults.GlyphNumber)
+    (cond (eqb n 18) (Slot a b faults.Size) (cond (eqb n 19) (Slot a b faults.Outside) (Short a)))))))))
+
+refused_back : (w : Refused) → w ≡ refused_as (refused w).number (refused w).first (refused w).second
+unfolding refused_as
+refused_back Plane = refl
+refused_back Table = refl
+refused_back Length = refl
+refused_back (Check b) = refl
+refused_back (Heading b) = refl
+refused_back (Slot b i faults.Form) = refl
+refused_back (Slot b i faults.GlyphNumber) = refl
+refused_back (Slot b i faults.Size) = refl
+refused_back (Slot b i faults.Outside) = refl
+refused_back (Short n) = refl
+
+pub refused_one : (v w : Refused) → refused v ≡ refused w → v ≡ w
+refused_one v w e =
+    refused_back v ∙ ap (λ (a : Answer). refused_as a.number a.first a.second) e ∙ sym (refused_back w)
+
+pub checked_one : (q r : Result (Unit {0}) Refused) → checked q ≡ checked r → q ≡ r
+checked_one (Ok x) (Ok y) e = refl
+checked_one (Ok x) (Err w) e = absurd (refused_some w (sym (ap (λ (a : Answer). a.number) e)))
+checked_one (Err v) (Ok y) e = absurd (refused_some v (ap (λ (a : Answer). a.number) e))
+checked_one (Err v) (Err w) e = ap Err (refused_one v w e)
+
+pub answered_one : (q r : Result ℕ Refused) → answered q ≡ answered r → q ≡ r
+answered_one (Ok m) (Ok n) e = ap (λ (a : Answer). Ok a.first) e
+answered_one (Ok m) (Err w) e = absurd (refused_some w (sym (ap (λ (a : Answer). a.number) e)))
+answered_one (Err v) (Ok n) e = absurd (refused_some v (ap (λ (a : Answer). a.number) e))
+answered_one (Err v) (Err w) e = ap Err (refused_one v w e)
 
 pub unless_is : (t : Bool) (w : Refused) {n : ℕ} → refused w ≡ answer n 0 0 → checked (unless t w) ≡ refusal_unless t n
 unless_is true w e = refl

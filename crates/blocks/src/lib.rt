@@ -3,7 +3,7 @@
 
 ghost use Rattle.std.specs.Prelude.{◌≡◌};
 ghost use Rattle.blocks.specs.Answer.{unless};
-ghost use Rattle.blocks.specs.Refused.{refused, checked, checked_at, answered};
+ghost use Rattle.blocks.specs.Refused.{fault_of, fault_number, refused, checked, checked_at, answered};
 ghost use Rattle.blocks.specs.Block.{check_of, zeros_b, head_b, block_answer, blocks_checked};
 
 use records::{BLOCK_BYTES, RECORD_BYTES, RECORDS_AT, Refusal};
@@ -25,6 +25,42 @@ const RECORDS_BYTES: u32 = 500;
 // How many figures a block may have.
 pub const FIGURES: u8 = 50;
 
+// What is wrong with a record, one case for each of its numbers: its form, a glyph's number, a factor or a radius, a dot outside.
+#[derive(Clone, Copy, PartialEq, Eq)]
+pub enum Fault {
+    Form,
+    GlyphNumber,
+    Size,
+    Outside,
+}
+
+impl From<Refusal> for Fault {
+    ghost from_gives = { λ w f. f ≡ fault_of w };
+
+    fn from(w: Refusal) -> Fault {
+        match w {
+            Refusal::Form => Fault::Form,
+            Refusal::GlyphNumber => Fault::GlyphNumber,
+            Refusal::Factor | Refusal::Radius => Fault::Size,
+            Refusal::Outside => Fault::Outside,
+        }
+    }
+}
+
+impl Fault {
+    // The number of a record's refusal.
+    pub fn number(self) -> u8
+        ensures { result ≡ fault_number self }
+    {
+        match self {
+            Fault::Form => 16,
+            Fault::GlyphNumber => 17,
+            Fault::Size => 18,
+            Fault::Outside => 19,
+        }
+    }
+}
+
 // Why a sheet is refused: the plane, the glyph table, the sheet's length; a block's check, or its heading, spare bytes or unused records;
 // a record; an output shorter than the entries needed.
 #[derive(Clone, Copy)]
@@ -34,11 +70,7 @@ pub enum Refused {
     Length,
     Check(u16),
     Heading(u16),
-    Slot {
-        block: u16,
-        index: u16,
-        why: Refusal,
-    },
+    Slot { block: u16, index: u16, why: Fault },
     Short(u32),
 }
 
@@ -62,7 +94,7 @@ impl Refused {
             Refused::Check(block) => (14, u32::from(block), 0),
             Refused::Heading(block) => (15, u32::from(block), 0),
             Refused::Slot { block, index, why } => {
-                (records::why_number(why), u32::from(block), u32::from(index))
+                (why.number(), u32::from(block), u32::from(index))
             }
             Refused::Short(needed) => (20, needed, 0),
         };
@@ -89,7 +121,7 @@ pub fn told(r: Result<u32, Refused>) -> Answer
 }
 
 // A refusal where a test fails.
-pub fn refusal_unless(ok: bool, why: Refused) -> Result<(), Refused>
+pub fn refusal_unless<E: Copy>(ok: bool, why: E) -> Result<(), E>
     ensures { result ≡ unless ok why }
 {
     if ok { Ok(()) } else { Err(why) }

@@ -251,7 +251,8 @@ fn read_held(p: PlainRegisters, port: u8) -> Held
     held_read(p.mode, p.buffer)
 }
 
-// A byte from a port: 0 the status, any other the oldest byte read.
+// A byte from a port: 0 the status, any other the oldest byte read. It is compiled into each call, so that no set is handed on.
+#[inline(always)]
 pub fn read_plain(p: PlainRegisters, port: u8) -> PlainAnswer
     ensures { result ≡ asked p (read_from port (from_plain p)) }
 {

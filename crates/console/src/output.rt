@@ -1,7 +1,7 @@
 // The answers, held in a room until it is full or the script is to be waited for.
 ghost use Rattle.std.specs.Prelude.{◌≡◌, length};
 ghost use Rattle.console.specs.Upper.{upper_of};
-ghost use Rattle.console.specs.Output.{nothing_held, with_character};
+ghost use Rattle.console.specs.Output.{nothing_held, held_first, with_character};
 
 use crate::desk::Reply;
 use std::marker::Model;
@@ -37,6 +37,22 @@ impl<'a> Output<'a> {
         ensures { result ≡ nothing_held (length room.old) }
     {
         Output { room, held: 0 }
+    }
+
+    // A room that holds that many characters already; more than its length act as its length.
+    pub fn holding(room: &'a mut [u8], held: usize) -> Output<'a>
+        ensures { result ≡ held_first held room.old }
+    {
+        let held = held.min(room.len());
+        Output { room, held }
+    }
+
+    // How many characters are held.
+    pub fn held(&self) -> usize
+        ensures { result ≡ length self.now.text }
+    {
+        let count = self.held;
+        count
     }
 
     // What is held is written out: whether all of it was taken.

@@ -8,9 +8,12 @@ use native.Mathlib.Omega.{arith}
 use lib.Dec.{eqb, ltb}
 use lib.ListN.{length}
 use borrow.Author.Tests.{eq-eqb, ne_eqb, eqb-true, eqb-false}
+use Rattle.std.specs.Prelude.{Result, Ok, Err}
 use Rattle.records.specs.declared.Record.{Record}
 use Rattle.blocks.specs.declared.Answer.{Answer}
+use Rattle.blocks.specs.declared.Refused.{Refused}
 use Rattle.blocks.specs.Answer.{answer}
+use Rattle.blocks.proofs.AnswerLaws.{refused_some, refused_one}
 use Rattle.refusals.specs.Refusals.{sheet_refusal}
 use Rattle.entries.specs.Entries.{size_of}
 use Rattle.sheets.specs.Lawful.{Lawful}
@@ -19,8 +22,9 @@ use Rattle.sheets.specs.Sheet.{figures_of, ended, answer_of, translate_def}
 use Rattle.sheets.proofs.SlotLaws.{translation_length}
 use Rattle.sheets.proofs.AcceptLaws.{not_refused, lawful_only, refusal_below}
 use Rattle.costs.specs.declared.Cost.{Cost}
+use Rattle.costs.specs.declared.Price.{Price}
 use Rattle.costs.specs.Dots.{figure_dots, figures_dots}
-use Rattle.costs.specs.Cost.{cost_of, cost_refused, cost_def, CostIsToldOfLawful, CostIsTheTranslators}
+use Rattle.costs.specs.Cost.{cost_of, cost_refused, answered, cost_def, CostIsToldOfLawful, CostIsTheTranslators}
 use Rattle.costs.specs.Share.{share_of, cost_by}
 
 -- ---- a slot
@@ -102,3 +106,16 @@ cost_agrees s p h t out = go (eqb (sheet_refusal s p h t).number 0)
         (cond b (ended (length (translation t p (figures_of s p h t))) (length out)) (sheet_refusal s p h t))
     go true = short (ltb (length out) (length (translation t p (figures_of s p h t))))
     go false = (rw (ne_eqb (sheet_refusal s p h t).number 20 (λ z. omega (arith, z, refusal_below s p h t))), refl, refl)
+
+-- ---- two allowed answers are equal: a cost in numbers is of one price or of one refusal, so the Results themselves are
+answered_one : (q r : Result Price Refused) → answered q ≡ answered r → q ≡ r
+answered_one (Ok a) (Ok b) e = ap (λ (x : Cost). Ok (record { entries = x.first; figures = x.figures; units = x.units })) e
+answered_one (Ok a) (Err w) e = absurd (refused_some w (sym (ap (λ (x : Cost). x.number) e)))
+answered_one (Err v) (Ok b) e = absurd (refused_some v (ap (λ (x : Cost). x.number) e))
+answered_one (Err v) (Err w) e =
+    ap Err (refused_one v w (ap (λ (x : Cost). answer x.number x.first x.second) e))
+
+pub only_told : (s : List ℕ) (p h : ℕ) (t : List ℕ) {q r : Result Price Refused} → answered q ≡ cost_def s p h t
+    → answered r ≡ cost_def s p h t
+    → q ≡ r
+only_told s p h t {q} {r} e f = answered_one q r (e ∙ sym f)

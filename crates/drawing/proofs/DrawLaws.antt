@@ -1,9 +1,9 @@
 -- One law for each way out of `draw_sheet`, and that two allowed answers are equal. True because the tests of the code run in the
 -- definition's order, and the translator leaves its output as it was where it refuses.
 use mathlib.Core.Path.{◌≡◌, refl, sym, ap, ◌∙◌}
-use Rattle.std.specs.Prelude.{Bool, true, false, cond, Err}
+use Rattle.std.specs.Prelude.{Bool, true, false, cond, Result, Ok, Err}
 use mathlib.Core.List.{List}
-use Prim.Native.Nat.{ℕ, ◌≤◌}
+use Prim.Native.Nat.{ℕ, ◌<◌, ◌≤◌}
 use lib.ListN.{length, take, length-take}
 use native.Mathlib.Omega.{arith}
 use borrow.Author.Tests.{eq-eqb, ne_eqb}
@@ -11,10 +11,17 @@ use Rattle.registers.specs.declared.Registers.{Registers}
 use Rattle.registers.specs.Sound.{sound_b}
 use Rattle.registers.specs.State.{state}
 use Rattle.units.specs.declared.Refusal.{Refusal}
+use Rattle.units.specs.declared.Refusal.TheVariants.{Unsound, Length}
 use Rattle.units.specs.Answered.{refusal_number, accepted_by}
 use Rattle.units.specs.Run.{length_b}
 use Rattle.units.proofs.RunLaws.{refused_by}
 use Rattle.blocks.specs.declared.Answer.{Answer}
+use Rattle.blocks.specs.declared.Fault.TheVariants as faults
+use Rattle.blocks.specs.declared.Refused.{Refused}
+use Rattle.blocks.specs.declared.Refused.TheVariants as sheets
+use Rattle.blocks.specs.Answer.{answer}
+use Rattle.blocks.specs.Refused.{refused as sheet_refused}
+use Rattle.blocks.proofs.AnswerLaws.{refused_one}
 use Rattle.sheets.specs.Sheet.{answer_of, translate_def}
 use Rattle.sheets.specs.Sheet.{Outcome as Translated, outcome as translated}
 use Rattle.entries.proofs.PutLaws.{placed_length}
@@ -25,7 +32,11 @@ use Rattle.finishing.specs.Finish.{left_at, finished}
 use Rattle.finishing.specs.Finish.{Outcome as Sending, outcome as sending}
 use Rattle.sends.specs.declared.Listed.{Listed}
 use Rattle.sends.specs.Sends.{listed, list_sent}
+use Rattle.drawing.specs.declared.Picture.{Picture}
+use Rattle.drawing.specs.declared.Refusal.{Refusal as Why}
+use Rattle.drawing.specs.declared.Refusal.TheVariants.{Run, Larger, Sheet}
 use Rattle.drawing.specs.Draw.{Outcome, outcome, refusal, all_sent, drawn_by, larger_b, sheet_drawn}
+use Rattle.drawing.specs.Refused.{refused, answered}
 
 module _ (sheet : List ℕ) (p h : ℕ) (glyphs : List ℕ) (r : Registers) (entries mem : List ℕ) where
   abbrev all : Outcome
@@ -100,3 +111,71 @@ module _ (sheet : List ℕ) (p h : ℕ) (glyphs entries : List ℕ) {a : Answer}
 
   pub part_long : a.first ≡ length (take a.first out)
   part_long = sym (length-take a.first out ∙ omega (arith, part_fits))
+
+-- ---- an answer in numbers is of one picture or of one refusal: a run's are 1 and 2, the sheet's 11 to 20, and 23 is a larger picture's
+from_11 : (w : Refused) → 10 < (sheet_refused w).number
+from_11 sheets.Plane = omega arith
+from_11 sheets.Table = omega arith
+from_11 sheets.Length = omega arith
+from_11 (sheets.Check b) = omega arith
+from_11 (sheets.Heading b) = omega arith
+from_11 (sheets.Slot b i faults.Form) = omega arith
+from_11 (sheets.Slot b i faults.GlyphNumber) = omega arith
+from_11 (sheets.Slot b i faults.Size) = omega arith
+from_11 (sheets.Slot b i faults.Outside) = omega arith
+from_11 (sheets.Short n) = omega arith
+
+to_20 : (w : Refused) → (sheet_refused w).number < 21
+to_20 sheets.Plane = omega arith
+to_20 sheets.Table = omega arith
+to_20 sheets.Length = omega arith
+to_20 (sheets.Check b) = omega arith
+to_20 (sheets.Heading b) = omega arith
+to_20 (sheets.Slot b i faults.Form) = omega arith
+to_20 (sheets.Slot b i faults.GlyphNumber) = omega arith
+to_20 (sheets.Slot b i faults.Size) = omega arith
+to_20 (sheets.Slot b i faults.Outside) = omega arith
+to_20 (sheets.Short n) = omega arith
+
+some : (w : Why) → (refused w).number ≡ 0 → ⊥
+some (Run Unsound) e = absurd (omega arith)
+some (Run Length) e = absurd (omega arith)
+some Larger e = absurd (omega arith)
+some (Sheet w) e = let k = from_11 w in absurd (omega arith)
+
+one : (v w : Why) → refused v ≡ refused w → v ≡ w
+one v w e = by v w e (ap (λ (x : Answer). x.number) e)
+  where
+    by : (v w : Why) → refused v ≡ refused w → (refused v).number ≡ (refused w).number → v ≡ w
+    by (Run Unsound) (Run Unsound) e z = refl
+    by (Run Unsound) (Run Length) e z = absurd (omega arith)
+    by (Run Length) (Run Unsound) e z = absurd (omega arith)
+    by (Run Length) (Run Length) e z = refl
+    by (Run Unsound) Larger e z = absurd (omega arith)
+    by (Run Length) Larger e z = absurd (omega arith)
+    by (Run Unsound) (Sheet w) e z = let k = from_11 w in absurd (omega arith)
+    by (Run Length) (Sheet w) e z = let k = from_11 w in absurd (omega arith)
+    by Larger (Run Unsound) e z = absurd (omega arith)
+    by Larger (Run Length) e z = absurd (omega arith)
+    by Larger Larger e z = refl
+    by Larger (Sheet w) e z = let k = to_20 w in absurd (omega arith)
+    by (Sheet v) (Run Unsound) e z = let k = from_11 v in absurd (omega arith)
+    by (Sheet v) (Run Length) e z = let k = from_11 v in absurd (omega arith)
+    by (Sheet v) Larger e z = let k = to_20 v in absurd (omega arith)
+    by (Sheet v) (Sheet w) e z = ap Sheet (refused_one v w e)
+
+answered_one : (r : Registers) (c d : Result Picture Why) → answered r c ≡ answered r d → c ≡ d
+answered_one r (Ok a) (Ok b) e =
+    ap (λ (x : Drawn). Ok (record { entries = x.first; units = x.units; earlier = x.earlier; regs = x.regs })) e
+answered_one r (Ok a) (Err w) e = absurd (some w (sym (ap (λ (x : Drawn). x.number) e)))
+answered_one r (Err v) (Ok b) e = absurd (some v (ap (λ (x : Drawn). x.number) e))
+answered_one r (Err v) (Err w) e = ap Err (one v w (ap (λ (x : Drawn). answer x.number x.first x.second) e))
+
+-- so two allowed answers are equal, the Results themselves, and with them the entries and the memories
+pub only_told : (sheet : List ℕ) (p h : ℕ) (glyphs : List ℕ) (r : Registers) (entries mem : List ℕ) {c d : Result Picture Why}
+    {a b m n : List ℕ}
+    → outcome (answered r c) a m ≡ sheet_drawn sheet p h glyphs r entries mem
+    → outcome (answered r d) b n ≡ sheet_drawn sheet p h glyphs r entries mem
+    → (c ≡ d) × (a ≡ b) × (m ≡ n)
+only_told sheet p h glyphs r entries mem {c} {d} e f =
+    let w = only sheet p h glyphs r entries mem e f in (answered_one r c d w.0, w.1, w.2)

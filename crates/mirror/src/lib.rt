@@ -13,7 +13,7 @@ ghost use Rattle.sends.specs.Sends.{list_sent};
 ghost use Rattle.sheets.specs.Sheet.{translate_def};
 ghost use Rattle.costs.specs.Cost.{cost_def};
 ghost use Rattle.plain.specs.Mirror.{from_plain, to_plain};
-ghost use Rattle.bus.specs.Asked.{asked, read_from};
+ghost use Rattle.bus.specs.Asked.{answer_plain, asked, read_from};
 ghost use Rattle.mirror.specs.Asked.{reply_of, replied};
 ghost use Rattle.mirror.specs.Asked.{plained, ran_on, ran_plain, report_of, report, told, costed};
 ghost use Rattle.mirror.specs.Asked.{delivered, sent_on, sent_plain, tally_of, tallied};
@@ -161,14 +161,23 @@ pub fn kranichseil_fresh() -> PlainRegisters
     registers::fresh().into()
 }
 
-// What a port answers that was asked with a set, read as the registers r; what is no register set is refused.
-fn asked(p: PlainRegisters, r: Registers, a: Result<Granted, Refusal>) -> PlainAnswer
-    ensures { result ≡ asked p (answered r a) }
+// A port's answer in plain numbers. It is compiled into each port, so that no set is handed on.
+#[inline(always)]
+fn answer(given: Registers, a: Result<Granted, Refusal>) -> PlainAnswer
+    ensures { result ≡ answer_plain (answered given a) }
 {
-    if forms::formed(p) {
-        return ports::told(r, a).into();
+    match a {
+        Ok(Granted { value, regs }) => PlainAnswer {
+            number: 0,
+            value,
+            regs: regs.into(),
+        },
+        Err(why) => PlainAnswer {
+            number: why.number(),
+            value: 0,
+            regs: given.into(),
+        },
     }
-    bus::refuse(p)
 }
 
 // A byte to the command port.
@@ -182,32 +191,36 @@ pub fn kranichseil_command(r: PlainRegisters, byte: u8) -> PlainAnswer
 pub fn kranichseil_parameter(r: PlainRegisters, byte: u8) -> PlainAnswer
     ensures { result ≡ asked r (parameter_written (from_plain r) byte) }
 {
+    if !forms::formed(r) {
+        return bus::refuse(r);
+    }
     let regs = r.into();
-    asked(r, regs, ports::write_parameter(regs, byte))
+    answer(regs, ports::write_parameter(regs, byte))
 }
 
 // A byte is read.
 pub fn kranichseil_read(r: PlainRegisters) -> PlainAnswer
     ensures { result ≡ asked r (byte_read (from_plain r)) }
 {
-    let regs = r.into();
-    asked(r, regs, ports::read_byte(regs))
+    bus::read_plain(r, 1)
 }
 
 // The status is read.
 pub fn kranichseil_status(r: PlainRegisters) -> PlainAnswer
     ensures { result ≡ asked r (status_read (from_plain r)) }
 {
-    let regs = r.into();
-    asked(r, regs, ports::read_status(regs))
+    bus::read_plain(r, 0)
 }
 
 // A light-pen address is posted.
 pub fn kranichseil_pen(r: PlainRegisters, address: u32) -> PlainAnswer
     ensures { result ≡ asked r (pen_posted (from_plain r) address) }
 {
+    if !forms::formed(r) {
+        return bus::refuse(r);
+    }
     let regs = r.into();
-    asked(r, regs, ports::post_pen(regs, address))
+    answer(regs, ports::post_pen(regs, address))
 }
 
 // A byte to a port of the registers where they stand.
@@ -241,7 +254,20 @@ pub fn kranichseil_run(r: PlainRegisters, mem: &mut [u16], budget: u32) -> Plain
         };
     }
     let set = r.into();
-    units::told(set, units::run(set, mem, budget)).into()
+    match units::run(set, mem, budget) {
+        Ok(done) => PlainRan {
+            number: 0,
+            count: done.count,
+            why: u8::from(done.why),
+            regs: done.regs.into(),
+        },
+        Err(why) => PlainRan {
+            number: u8::from(why),
+            count: 0,
+            why: 0,
+            regs: set.into(),
+        },
+    }
 }
 
 // The run on the registers where they stand.

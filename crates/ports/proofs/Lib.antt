@@ -1,1 +1,2 @@
 pub mod AnsweredLaws
+pub mod ToldLaws

@@ -95,13 +95,11 @@ fn accepted(r: Registers) -> Result<(), Refusal>
 }
 
 // An entry more is queued.
-fn queue(r: Registers, e: u16) -> Registers
+fn queue(mut r: Registers, e: u16) -> Registers
     ensures { result ≡ queued r e }
 {
-    Registers {
-        buffer: registers::push(r.buffer, e),
-        ..r
-    }
+    r.buffer = registers::push(r.buffer, e);
+    r
 }
 
 // Write mode, with all read data discarded and the read ended.
@@ -176,13 +174,11 @@ pub fn write_parameter(r: Registers, byte: u8) -> Result<Granted, Refusal>
 }
 
 // The buffer without its oldest byte.
-fn drop_oldest(r: Registers) -> Registers
+fn drop_oldest(mut r: Registers) -> Registers
     ensures { result ≡ put_buffer r (popped r.buffer) }
 {
-    Registers {
-        buffer: registers::pop(r.buffer),
-        ..r
-    }
+    r.buffer = registers::pop(r.buffer);
+    r
 }
 
 fn byte_in(r: Registers) -> Result<Granted, Refusal>
@@ -222,13 +218,11 @@ pub fn read_status(r: Registers) -> Result<Granted, Refusal>
 }
 
 // The light pen's address, as news.
-fn put_pen(r: Registers, address: u32) -> Registers
+fn put_pen(mut r: Registers, address: u32) -> Registers
     ensures { result ≡ pen_put r address }
 {
-    Registers {
-        pen: Pen { address, set: true },
-        ..r
-    }
+    r.pen = Pen { address, set: true };
+    r
 }
 
 // A light-pen address is posted.

@@ -8,14 +8,17 @@ use native.Mathlib.Omega.{arith}
 use lib.Dec.{eqb, leb}
 use lib.ListN.{length}
 use borrow.Author.Tests.{leb-true, eqb-true}
+use Rattle.std.specs.Prelude.{Result}
 use Rattle.records.specs.declared.Room.{Room}
 use Rattle.records.specs.Decode.{Decoded}
 use Rattle.records.specs.Refused.{number_of}
 use Rattle.records.proofs.TestLaws.{and_both}
 use Rattle.blocks.specs.declared.Answer.{Answer}
+use Rattle.blocks.specs.declared.Refused.{Refused}
 use Rattle.blocks.specs.Answer.{answer, refusal_unless, or_else}
+use Rattle.blocks.specs.Refused.{checked}
 use Rattle.blocks.specs.Block.{blocks_checked}
-use Rattle.blocks.proofs.AnswerLaws.{or_first, or_next, or_zero}
+use Rattle.blocks.proofs.AnswerLaws.{or_first, or_next, or_zero, checked_one}
 use Rattle.refusals.specs.Refusals.{used_b, slot_decoded, slot_refusal, records_checked}
 use Rattle.refusals.specs.Refusals.{plane_b, table_b, sheet_length_b, plane_refusal, table_refusal, length_refusal, frame_refusal}
 use Rattle.refusals.specs.Refusals.{room_of, sheet_refusal}
@@ -109,3 +112,7 @@ module _ (s : List ℕ) (p h : ℕ) (t : List ℕ) where
       → r ≡ records_checked s (room_of p h (length t)) (length s / 512) → c ≡ or_else b r → c ≡ sheet_refusal s p h t
   unfolding sheet_refusal
   way_checked e z be re ce = rw (← be, ← re) ce ∙ sym (or_next frame _ (sym (ap (λ (x : Answer). x.number) e) ∙ z))
+
+  -- two allowed answers are equal: the Results themselves, which are told apart
+  pub only_told : {q r : Result (Unit {0}) Refused} → checked q ≡ sheet_refusal s p h t → checked r ≡ sheet_refusal s p h t → q ≡ r
+  only_told {q} {r} e f = checked_one q r (e ∙ sym f)

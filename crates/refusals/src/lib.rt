@@ -47,7 +47,7 @@ fn check_slot(s: &[u8], k: u16, m: Room) -> Result<(), Refused>
         Err(why) => Err(Refused::Slot {
             block: k / RECORDS,
             index: k % RECORDS,
-            why,
+            why: why.into(),
         }),
     }
 }

@@ -15,14 +15,27 @@ pub enum Line {
     Bytes(u8),
 }
 
+// The value of 0 to 9, and of A to F in upper case; 16 of any other character, so that the loops below need no branch for it.
+#[tactic(auto, unfolding(crate::specs::Digits::digit_of))]
+fn value_of(b: u8) -> u8
+    ensures { result ≡ digit_of b }
+{
+    match b {
+        b'0'..=b'9' => b - 48,
+        b'A'..=b'F' => b - 55,
+        _ => 16,
+    }
+}
+
 // A digit's value: 0 to 9, and A to F in upper case.
 fn digit_of(b: u8) -> Option<u32>
     ensures { SomeIff result (digit_of b < 16) (digit_of b) }
 {
-    if b.is_ascii_lowercase() {
+    let value = value_of(b);
+    if 16 <= value {
         return None;
     }
-    char::from(b).to_digit(16)
+    Some(u32::from(value))
 }
 
 // A number with one digit more; what passes 32 bits counts as 4,294,967,296.
@@ -131,8 +144,7 @@ pub fn bytes_right(s: &[u8]) -> bool
 fn byte_of(high: u8, low: u8) -> u8
     ensures { result ≡ byte_of high low }
 {
-    let byte = 16 * digit_of(high).unwrap_or(0) + digit_of(low).unwrap_or(0);
-    byte as u8
+    16 * (value_of(high) % 16) + value_of(low) % 16
 }
 
 // The bytes of a field go into a buffer, from a place on, as far as there is room.

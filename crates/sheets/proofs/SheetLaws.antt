@@ -8,9 +8,12 @@ use native.Mathlib.Omega.{arith}
 use lib.Dec.{ltb}
 use lib.ListN.{length, drop}
 use borrow.Author.Tests.{eq-eqb, ne_eqb, lt-ltb, le-ltb, ltb-false}
+use Rattle.std.specs.Prelude.{Result}
 use Rattle.blocks.specs.declared.Answer.{Answer}
+use Rattle.blocks.specs.declared.Refused.{Refused}
 use Rattle.blocks.specs.Answer.{answer}
-use Rattle.blocks.proofs.AnswerLaws.{or_next, or_zero}
+use Rattle.blocks.specs.Refused.{answered}
+use Rattle.blocks.proofs.AnswerLaws.{or_next, or_zero, answered_one}
 use Rattle.refusals.specs.Refusals.{sheet_refusal}
 use Rattle.refusals.proofs.RefusalLaws.{Framed, sheet_framed}
 use Rattle.entries.specs.Entries.{placed}
@@ -91,3 +94,10 @@ pub only : (s : List ℕ) (p h : ℕ) (t o : List ℕ) {a b : Answer} {u v : Lis
     → outcome b v ≡ translate_def s p h t o
     → (a ≡ b) × (u ≡ v)
 only s p h t o e f = (ap (λ (x : Outcome). x.answer) (e ∙ sym f), ap (λ (x : Outcome). x.out) (e ∙ sym f))
+
+-- .. and so are the Results that the function answers, which are told apart
+pub only_told : (s : List ℕ) (p h : ℕ) (t o : List ℕ) {q r : Result ℕ Refused} {u v : List ℕ}
+    → outcome (answered q) u ≡ translate_def s p h t o
+    → outcome (answered r) v ≡ translate_def s p h t o
+    → (q ≡ r) × (u ≡ v)
+only_told s p h t o {q} {r} e f = let w = only s p h t o e f in (answered_one q r w.0, w.1)

@@ -25,10 +25,10 @@ use Rattle.sweeps.specs.Curve.{curve_at, curve_on}
 
 -- a walk by a place with its axis is the walk of the place
 module _ (w : Wiring) (op : Operation) (low high : ℕ) where
-  abbrev curved : Paced Curve → Placed
+  abbrev pub curved : Paced Curve → Placed
   curved v = placed v.place.place v.mem
 
-  curve_same : (n i : ℕ) (p : Curve) (m : List ℕ)
+  pub curve_same : (n i : ℕ) (p : Curve) (m : List ℕ)
       → curved (pace_walk curve_at curve_on w op low high n i p m) ≡ place_walk w op low high p.axis n i p.place m
   unfolding pace_walk place_walk
   curve_same zero i p m = refl

@@ -95,10 +95,8 @@ pub fn told(r: Registers, done: Result<Done, Refusal>) -> Ran
 fn fetch(r: Registers, mem: &mut [u16]) -> Registers
     ensures { state result mem.new ≡ fetched (state r mem.old) }
 {
-    let left = Registers {
-        buffer: registers::pop(r.buffer),
-        ..r
-    };
+    let mut left = r;
+    left.buffer = registers::pop(r.buffer);
     processor::entry_taken(left, registers::oldest_of(r.buffer), mem)
 }
 
@@ -211,26 +209,32 @@ pub fn run_on(r: Registers, mem: &mut [u16], budget: u32) -> Done
                 regs: s,
             };
         }
-        let (b, c, most) = (brush_of(s), s.cursor, budget - n);
-        let q = match s.work {
-            Work::Figure { dot, d } => bursts::figure(mem, b, c, dot, d, most),
-            Work::Arc { cycle, running } => sweeps::arc(mem, b, c, cycle, running, most),
+        match s.work {
+            Work::Figure { dot, d } => {
+                let q = bursts::figure(mem, brush_of(s), s.cursor, dot, d, budget - n);
+                s = after_burst(s, q);
+                n += q.count;
+            }
+            Work::Arc { cycle, running } => {
+                let q = sweeps::arc(mem, brush_of(s), s.cursor, cycle, running, budget - n);
+                s = after_burst(s, q);
+                n += q.count;
+            }
             Work::Character { row, column, start } => {
-                bursts::character(mem, b, c, row, column, start, most)
+                let b = brush_of(s);
+                let q = bursts::character(mem, b, s.cursor, row, column, start, budget - n);
+                s = after_burst(s, q);
+                n += q.count;
             }
             Work::Reading { item, transfer } => {
                 s = figures::reading::read_unit(s, item, transfer, mem);
                 n += 1;
-                continue;
             }
             Work::Idle => {
                 s = idle_unit(s, mem);
                 n += 1;
-                continue;
             }
-        };
-        s = after_burst(s, q);
-        n += q.count;
+        }
     }
     Done {
         count: n,

@@ -2,6 +2,7 @@
 use Prim.Native.Nat.{ℕ, ◌/◌, ◌%◌}
 use mathlib.Core.Path.{refl, sym, ap, ◌∙◌}
 use Rattle.blocks.specs.Answer.{answer}
+use Rattle.blocks.proofs.AnswerLaws.{fault_told}
 use Rattle.refusals.proofs.RefusalLaws.{not_refused, number_is}
 use Rattle.refusals.proofs.check_slot.Goals as goal
 
@@ -17,4 +18,4 @@ returns-in-Ok c =
 pub returns-in-Err : goal.returns-in-Err
 returns-in-Err c =
     ap (λ (y : ℕ). answer y (c.args.k / 50) (c.args.k % 50))
-    (number_is _ _ _ (sym c.used.ensures ∙ c.if-not-used.false) c.in-Err.ensures refl)
+    (number_is _ _ _ (sym c.used.ensures ∙ c.if-not-used.false) c.in-Err.ensures (rw c.into.ensures (fault_told _)))

@@ -3,5 +3,5 @@ use Rattle.units.proofs.UnitLaws.{fetched_by}
 use Rattle.units.proofs.fetch.Goals as goal
 
 pub returns : goal.returns
-returns c = fetched_by _ _ c.pop.ensures c.oldest_of.ensures
+returns c = fetched_by _ _ c.pop-left.ensures c.oldest_of.ensures
     c.entry_taken.ensures

@@ -1,13 +1,11 @@
 -- `run_on`: after n units, what is left to do from here is what was to do from the start; many units at once are as many (`figure_ahead`,
 -- `arc_ahead`, `character_ahead`).
-use Rattle.bursts.specs.Burst.{burst}
 use Rattle.units.specs.Stop.{reason_number}
-use Rattle.units.proofs.AheadLaws.{Ahead, figure_ahead, arc_ahead, character_ahead, goes_ahead}
+use Rattle.units.proofs.AheadLaws.{figure_ahead, arc_ahead, character_ahead, goes_ahead}
 use Rattle.units.proofs.RunLaws.{run_ends, run_stops, run_goes_on, stop_some}
 use Rattle.units.proofs.UnitLaws.{unit_by_law}
 use mathlib.Core.Path.{refl, sym, ap, ◌∙◌}
 use native.Mathlib.Omega.{arith}
-use Rattle.units.proofs.run_on.Goals.{in-Figure, in-Arc, in-Character}
 use Rattle.units.proofs.run_on.Goals as goal
 
 pub returns-in-Some : goal.returns-in-Some
@@ -23,37 +21,58 @@ loop-n-preserved-in-Reading c = let l = c.loop-n in
           (unit_by_law _ _ c.in-Reading.is c.read_unit-s.ensures);
     }
 
-pub loop-n-preserved-in-Idle : goal.loop-n-preserved-in-Idle
-loop-n-preserved-in-Idle c = let l = c.loop-n in
+pub loop-n-preserved : goal.loop-n-preserved
+loop-n-preserved c = let l = c.loop-n in
     record {
       within = omega arith;
       same = l.invariant.same ∙ run_goes_on _ _ _ c.loop-n-test.true (ap reason_number (sym c.in_default.is) ∙ c.reason.ensures) refl
           (unit_by_law _ _ c.in-Idle.is c.idle_unit-s.ensures);
     }
 
-drawn : (c : goal.After-struct_known-1) → Ahead c.loop-n.s c.args.budget c.loop-n.n c.loop-n.mem c.match-s.mem c.match-s.q
-drawn c =
-    let h = c.loop-n-test.true in
-    let b = c.brush_of-b.ensures in
-    elim c.match-s.branch [
-      | in-Figure w ↦ figure_ahead c.loop-n.s _ _ _ _ _ _ h w.in-Figure.is b ((λ i. burst (w.q-is i) (w.mem-is i)) ∙ w.figure-q.ensures)
-      | in-Arc w ↦ arc_ahead c.loop-n.s _ _ _ _ _ _ h w.in-Arc.is b ((λ i. burst (w.q-is i) (w.mem-is i)) ∙ w.arc-q.ensures)
-      | in-Character w ↦ character_ahead c.loop-n.s _ _ _ _ _ _ _ h w.in-Character.is b
-          ((λ i. burst (w.q-is i) (w.mem-is i)) ∙ w.character-q.ensures)
-    ]
+pub overflow_add-n : goal.overflow_add-n
+overflow_add-n c =
+    let v = figure_ahead c.loop-n.s _ _ _ _ _ _ c.loop-n-test.true c.in-Figure.is c.brush_of.ensures c.figure-q.ensures in
+    omega (arith, c.ranges, v.within)
 
-pub overflow_add-n-in-loop-n : goal.overflow_add-n-in-loop-n
-overflow_add-n-in-loop-n c = omega (arith, c.ranges, (drawn c).within)
+pub loop-n-smaller-in-Figure : goal.loop-n-smaller-in-Figure
+loop-n-smaller-in-Figure c =
+    let v = figure_ahead c.loop-n.s _ _ _ _ _ _ c.loop-n-test.true c.in-Figure.is c.brush_of.ensures c.figure-q.ensures in
+    omega (arith, v.some, v.within)
 
-pub loop-n-smaller : goal.loop-n-smaller
-loop-n-smaller c = omega (arith, (drawn c).some, (drawn c).within)
+pub loop-n-preserved-in-Figure : goal.loop-n-preserved-in-Figure
+loop-n-preserved-in-Figure c =
+    let v = figure_ahead c.loop-n.s _ _ _ _ _ _ c.loop-n-test.true c.in-Figure.is c.brush_of.ensures c.figure-q.ensures in
+    record { within = v.within; same = c.loop-n.invariant.same ∙ goes_ahead _ _ _ _ _ v c.after_burst-s.ensures }
 
-pub loop-n-preserved : goal.loop-n-preserved
-loop-n-preserved c =
-    record {
-      within = (drawn c).within;
-      same = c.loop-n.invariant.same ∙ goes_ahead _ _ _ _ _ (drawn c) c.after_burst-s.ensures;
-    }
+pub overflow_add-n-in-Arc : goal.overflow_add-n-in-Arc
+overflow_add-n-in-Arc c =
+    let v = arc_ahead c.loop-n.s _ _ _ _ _ _ c.loop-n-test.true c.in-Arc.is c.brush_of-in-Arc.ensures c.arc-q.ensures in
+    omega (arith, c.ranges, v.within)
+
+pub loop-n-smaller-in-Arc : goal.loop-n-smaller-in-Arc
+loop-n-smaller-in-Arc c =
+    let v = arc_ahead c.loop-n.s _ _ _ _ _ _ c.loop-n-test.true c.in-Arc.is c.brush_of-in-Arc.ensures c.arc-q.ensures in
+    omega (arith, v.some, v.within)
+
+pub loop-n-preserved-in-Arc : goal.loop-n-preserved-in-Arc
+loop-n-preserved-in-Arc c =
+    let v = arc_ahead c.loop-n.s _ _ _ _ _ _ c.loop-n-test.true c.in-Arc.is c.brush_of-in-Arc.ensures c.arc-q.ensures in
+    record { within = v.within; same = c.loop-n.invariant.same ∙ goes_ahead _ _ _ _ _ v c.after_burst-s-in-Arc.ensures }
+
+pub overflow_add-n-in-Character : goal.overflow_add-n-in-Character
+overflow_add-n-in-Character c =
+    let v = character_ahead c.loop-n.s _ _ _ _ _ _ _ c.loop-n-test.true c.in-Character.is c.brush_of-b.ensures c.character-q.ensures in
+    omega (arith, c.ranges, v.within)
+
+pub loop-n-smaller-in-Character : goal.loop-n-smaller-in-Character
+loop-n-smaller-in-Character c =
+    let v = character_ahead c.loop-n.s _ _ _ _ _ _ _ c.loop-n-test.true c.in-Character.is c.brush_of-b.ensures c.character-q.ensures in
+    omega (arith, v.some, v.within)
+
+pub loop-n-preserved-in-Character : goal.loop-n-preserved-in-Character
+loop-n-preserved-in-Character c =
+    let v = character_ahead c.loop-n.s _ _ _ _ _ _ _ c.loop-n-test.true c.in-Character.is c.brush_of-b.ensures c.character-q.ensures in
+    record { within = v.within; same = c.loop-n.invariant.same ∙ goes_ahead _ _ _ _ _ v c.after_burst-s-in-Character.ensures }
 
 pub returns : goal.returns
 returns c = run_ends _ _ _ c.loop-n-test.false ∙ sym c.loop-n.invariant.same
