@@ -15,7 +15,7 @@ pub enum Line {
     Bytes(u8),
 }
 
-// The value of 0 to 9, and of A to F in upper case; 16 of any other character, so that the loops below need no branch for it.
+// The value of 0 to 9, and of A to F in upper case; 16 of any other character. So a byte of two digits is put together without a branch.
 #[tactic(auto, unfolding(crate::specs::Digits::digit_of))]
 fn value_of(b: u8) -> u8
     ensures { result ≡ digit_of b }
