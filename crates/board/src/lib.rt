@@ -36,21 +36,9 @@ impl From<Ran> for Report {
 pub fn board_run(r: &mut Registers, mem: &mut [u16], budget: u32) -> Report
     ensures { report result r.new mem.new ≡ run_done budget (state r.old mem.old) }
 {
-    match units::run(*r, mem, budget) {
-        Ok(done) => {
-            *r = done.regs;
-            Report {
-                number: 0,
-                count: done.count,
-                why: u8::from(done.why),
-            }
-        }
-        Err(why) => Report {
-            number: u8::from(why),
-            count: 0,
-            why: 0,
-        },
-    }
+    let done = units::told(*r, units::run(*r, mem, budget));
+    *r = done.regs;
+    done.into()
 }
 
 // What a list of entries answers: a number of refusal, how many entries were taken, and the units of their runs.

@@ -7,20 +7,18 @@ ghost use Rattle.registers.specs.Fresh.{fresh_set};
 ghost use Rattle.registers.specs.State.{state};
 ghost use Rattle.units.specs.Run.{run_done};
 ghost use Rattle.ports.specs.Port.{command_written, parameter_written, byte_read, status_read, pen_posted};
-ghost use Rattle.ports.specs.Answered.{answered};
 ghost use Rattle.sending.specs.Send.{written};
 ghost use Rattle.sends.specs.Sends.{list_sent};
 ghost use Rattle.sheets.specs.Sheet.{translate_def};
 ghost use Rattle.costs.specs.Cost.{cost_def};
 ghost use Rattle.plain.specs.Mirror.{from_plain, to_plain};
-ghost use Rattle.bus.specs.Asked.{answer_plain, asked, read_from};
+ghost use Rattle.bus.specs.Asked.{asked, read_from};
 ghost use Rattle.mirror.specs.Asked.{reply_of, replied};
 ghost use Rattle.mirror.specs.Asked.{plained, ran_on, ran_plain, report_of, report, told, costed};
 ghost use Rattle.mirror.specs.Asked.{delivered, sent_on, sent_plain, tally_of, tallied};
 
 use bus::PlainAnswer;
 use plain::PlainRegisters;
-use ports::{Granted, Refusal};
 use registers::Registers;
 use sends::Listed;
 use units::Ran;
@@ -161,25 +159,6 @@ pub fn kranichseil_fresh() -> PlainRegisters
     registers::fresh().into()
 }
 
-// A port's answer in plain numbers. It is compiled into each port, so that no set is handed on.
-#[inline(always)]
-fn answer(given: Registers, a: Result<Granted, Refusal>) -> PlainAnswer
-    ensures { result ≡ answer_plain (answered given a) }
-{
-    match a {
-        Ok(Granted { value, regs }) => PlainAnswer {
-            number: 0,
-            value,
-            regs: regs.into(),
-        },
-        Err(why) => PlainAnswer {
-            number: why.number(),
-            value: 0,
-            regs: given.into(),
-        },
-    }
-}
-
 // A byte to the command port.
 pub fn kranichseil_command(r: PlainRegisters, byte: u8) -> PlainAnswer
     ensures { result ≡ asked r (command_written (from_plain r) byte) }
@@ -195,7 +174,7 @@ pub fn kranichseil_parameter(r: PlainRegisters, byte: u8) -> PlainAnswer
         return bus::refuse(r);
     }
     let regs = r.into();
-    answer(regs, ports::write_parameter(regs, byte))
+    ports::told(regs, ports::write_parameter(regs, byte)).into()
 }
 
 // A byte is read.
@@ -220,7 +199,7 @@ pub fn kranichseil_pen(r: PlainRegisters, address: u32) -> PlainAnswer
         return bus::refuse(r);
     }
     let regs = r.into();
-    answer(regs, ports::post_pen(regs, address))
+    ports::told(regs, ports::post_pen(regs, address)).into()
 }
 
 // A byte to a port of the registers where they stand.
@@ -254,20 +233,7 @@ pub fn kranichseil_run(r: PlainRegisters, mem: &mut [u16], budget: u32) -> Plain
         };
     }
     let set = r.into();
-    match units::run(set, mem, budget) {
-        Ok(done) => PlainRan {
-            number: 0,
-            count: done.count,
-            why: u8::from(done.why),
-            regs: done.regs.into(),
-        },
-        Err(why) => PlainRan {
-            number: u8::from(why),
-            count: 0,
-            why: 0,
-            regs: set.into(),
-        },
-    }
+    units::told(set, units::run(set, mem, budget)).into()
 }
 
 // The run on the registers where they stand.

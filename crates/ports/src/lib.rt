@@ -65,7 +65,8 @@ impl Refusal {
     }
 }
 
-// A port's answer in numbers; a refusal's has the set given, and 0.
+// A port's answer in numbers; a refusal's has the set given, and 0. It is compiled into each call, so that no set is handed on.
+#[inline(always)]
 pub fn told(given: Registers, a: Result<Granted, Refusal>) -> Answer
     ensures { result ≡ answered given a }
 {

@@ -25,14 +25,16 @@ pub fn oldest_of(b: Buffer) -> u16
 }
 
 // The buffer without its oldest entry.
-pub fn pop(mut b: Buffer) -> Buffer
+pub fn pop(b: Buffer) -> Buffer
     ensures { result ≡ popped b }
 {
     if b.count <= 1 {
         return Buffer::default();
     }
-    b.entries.copy_within(1.., 0);
-    b.entries[15] = 0;
-    b.count -= 1;
-    b
+    let mut entries = [0; 16];
+    entries[..15].copy_from_slice(&b.entries[1..]);
+    Buffer {
+        entries,
+        count: b.count - 1,
+    }
 }

@@ -32,12 +32,10 @@ fn run_event(r: Registers, e: u64, mem: &mut [u16]) -> Sent
     ensures { runs result mem.new ≡ runs_of (state r mem.old) e }
 {
     if e < IDLE_MARK {
-        return match units::run(r, mem, (e % UNITS_MARK) as u32) {
-            Ok(q) => Sent {
-                regs: q.regs,
-                units: q.count as u64,
-            },
-            Err(_) => Sent { regs: r, units: 0 },
+        let q = units::told(r, units::run(r, mem, (e % UNITS_MARK) as u32));
+        return Sent {
+            regs: q.regs,
+            units: q.count as u64,
         };
     }
     finishing::finish(r, mem)
