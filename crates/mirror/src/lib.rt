@@ -19,7 +19,6 @@ ghost use Rattle.mirror.specs.Asked.{delivered, sent_on, sent_plain, tally_of, t
 
 use bus::PlainAnswer;
 use plain::PlainRegisters;
-use registers::Registers;
 use sends::Listed;
 use units::Ran;
 
