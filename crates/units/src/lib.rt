@@ -211,7 +211,7 @@ pub fn run_on(r: Registers, mem: &mut [u16], budget: u32) -> Done
                 regs: s,
             };
         }
-        // Each arm makes its brush and takes the burst's end by itself: joined, they cost the arms without a burst a third more.
+        // Each arm makes its brush and takes the burst's end by itself: joined, a unit without a burst worked the brush out as well.
         match s.work {
             Work::Figure { dot, d } => {
                 let q = bursts::figure(mem, brush_of(s), s.cursor, dot, d, budget - n);
