@@ -1,7 +1,7 @@
 -- `run_on`: after n units, what is left to do from here is what was to do from the start; many units at once are as many (`figure_ahead`,
 -- `arc_ahead`, `character_ahead`).
 use Rattle.units.specs.Stop.{reason_number}
-use Rattle.units.proofs.AheadLaws.{figure_ahead, arc_ahead, character_ahead, goes_ahead}
+use Rattle.units.proofs.AheadLaws.{Ahead, figure_ahead, arc_ahead, character_ahead, goes_ahead}
 use Rattle.units.proofs.RunLaws.{run_ends, run_stops, run_goes_on, stop_some}
 use Rattle.units.proofs.UnitLaws.{unit_by_law}
 use mathlib.Core.Path.{refl, sym, ap, ◌∙◌}
@@ -29,50 +29,57 @@ loop-n-preserved c = let l = c.loop-n in
           (unit_by_law _ _ c.in-Idle.is c.idle_unit-s.ensures);
     }
 
+-- ---- a burst goes so many units ahead: of a figure
+drawn_figure : (c : goal.After-struct_known-1) → Ahead c.loop-n.s c.args.budget c.loop-n.n c.loop-n.mem c.figure-q.new.mem c.figure-q.result
+drawn_figure c = figure_ahead c.loop-n.s _ _ _ _ _ _ c.loop-n-test.true c.in-Figure.is c.brush_of.ensures c.figure-q.ensures
+
 pub overflow_add-n : goal.overflow_add-n
-overflow_add-n c =
-    let v = figure_ahead c.loop-n.s _ _ _ _ _ _ c.loop-n-test.true c.in-Figure.is c.brush_of.ensures c.figure-q.ensures in
-    omega (arith, c.ranges, v.within)
+overflow_add-n c = omega (arith, c.ranges, (drawn_figure c).within)
 
 pub loop-n-smaller-in-Figure : goal.loop-n-smaller-in-Figure
-loop-n-smaller-in-Figure c =
-    let v = figure_ahead c.loop-n.s _ _ _ _ _ _ c.loop-n-test.true c.in-Figure.is c.brush_of.ensures c.figure-q.ensures in
-    omega (arith, v.some, v.within)
+loop-n-smaller-in-Figure c = omega (arith, (drawn_figure c).some, (drawn_figure c).within)
 
 pub loop-n-preserved-in-Figure : goal.loop-n-preserved-in-Figure
 loop-n-preserved-in-Figure c =
-    let v = figure_ahead c.loop-n.s _ _ _ _ _ _ c.loop-n-test.true c.in-Figure.is c.brush_of.ensures c.figure-q.ensures in
-    record { within = v.within; same = c.loop-n.invariant.same ∙ goes_ahead _ _ _ _ _ v c.after_burst-s.ensures }
+    record {
+      within = (drawn_figure c).within;
+      same = c.loop-n.invariant.same ∙ goes_ahead _ _ _ _ _ (drawn_figure c) c.after_burst-s.ensures;
+    }
+
+-- of an arc
+drawn_arc : (c : goal.After-struct_known-in-Arc-1) → Ahead c.loop-n.s c.args.budget c.loop-n.n c.loop-n.mem c.arc-q.new.mem c.arc-q.result
+drawn_arc c = arc_ahead c.loop-n.s _ _ _ _ _ _ c.loop-n-test.true c.in-Arc.is c.brush_of-in-Arc.ensures c.arc-q.ensures
 
 pub overflow_add-n-in-Arc : goal.overflow_add-n-in-Arc
-overflow_add-n-in-Arc c =
-    let v = arc_ahead c.loop-n.s _ _ _ _ _ _ c.loop-n-test.true c.in-Arc.is c.brush_of-in-Arc.ensures c.arc-q.ensures in
-    omega (arith, c.ranges, v.within)
+overflow_add-n-in-Arc c = omega (arith, c.ranges, (drawn_arc c).within)
 
 pub loop-n-smaller-in-Arc : goal.loop-n-smaller-in-Arc
-loop-n-smaller-in-Arc c =
-    let v = arc_ahead c.loop-n.s _ _ _ _ _ _ c.loop-n-test.true c.in-Arc.is c.brush_of-in-Arc.ensures c.arc-q.ensures in
-    omega (arith, v.some, v.within)
+loop-n-smaller-in-Arc c = omega (arith, (drawn_arc c).some, (drawn_arc c).within)
 
 pub loop-n-preserved-in-Arc : goal.loop-n-preserved-in-Arc
 loop-n-preserved-in-Arc c =
-    let v = arc_ahead c.loop-n.s _ _ _ _ _ _ c.loop-n-test.true c.in-Arc.is c.brush_of-in-Arc.ensures c.arc-q.ensures in
-    record { within = v.within; same = c.loop-n.invariant.same ∙ goes_ahead _ _ _ _ _ v c.after_burst-s-in-Arc.ensures }
+    record {
+      within = (drawn_arc c).within;
+      same = c.loop-n.invariant.same ∙ goes_ahead _ _ _ _ _ (drawn_arc c) c.after_burst-s-in-Arc.ensures;
+    }
+
+-- of a character
+drawn_character : (c : goal.After-struct_known-in-Character-1)
+    → Ahead c.loop-n.s c.args.budget c.loop-n.n c.loop-n.mem c.character-q.new.mem c.character-q.result
+drawn_character c = character_ahead c.loop-n.s _ _ _ _ _ _ _ c.loop-n-test.true c.in-Character.is c.brush_of-b.ensures c.character-q.ensures
 
 pub overflow_add-n-in-Character : goal.overflow_add-n-in-Character
-overflow_add-n-in-Character c =
-    let v = character_ahead c.loop-n.s _ _ _ _ _ _ _ c.loop-n-test.true c.in-Character.is c.brush_of-b.ensures c.character-q.ensures in
-    omega (arith, c.ranges, v.within)
+overflow_add-n-in-Character c = omega (arith, c.ranges, (drawn_character c).within)
 
 pub loop-n-smaller-in-Character : goal.loop-n-smaller-in-Character
-loop-n-smaller-in-Character c =
-    let v = character_ahead c.loop-n.s _ _ _ _ _ _ _ c.loop-n-test.true c.in-Character.is c.brush_of-b.ensures c.character-q.ensures in
-    omega (arith, v.some, v.within)
+loop-n-smaller-in-Character c = omega (arith, (drawn_character c).some, (drawn_character c).within)
 
 pub loop-n-preserved-in-Character : goal.loop-n-preserved-in-Character
 loop-n-preserved-in-Character c =
-    let v = character_ahead c.loop-n.s _ _ _ _ _ _ _ c.loop-n-test.true c.in-Character.is c.brush_of-b.ensures c.character-q.ensures in
-    record { within = v.within; same = c.loop-n.invariant.same ∙ goes_ahead _ _ _ _ _ v c.after_burst-s-in-Character.ensures }
+    record {
+      within = (drawn_character c).within;
+      same = c.loop-n.invariant.same ∙ goes_ahead _ _ _ _ _ (drawn_character c) c.after_burst-s-in-Character.ensures;
+    }
 
 pub returns : goal.returns
 returns c = run_ends _ _ _ c.loop-n-test.false ∙ sym c.loop-n.invariant.same
